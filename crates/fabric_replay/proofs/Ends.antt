@@ -1,0 +1,78 @@
+-- How a run ends.
+use Rattle.std.proofs.Common.{◌≡◌, [], ◌++◌, Option, None, refl, sym, ap, ◌∙◌, arith}
+use Rattle.vtep_base.specs.Reading.{Bytes}
+use Rattle.vtep_base.specs.Outside.{SourceState, SinkState}
+use Rattle.vtep_base.specs.declared.answers.Status.{Status}
+use Rattle.vtep_base.specs.declared.answers.Status.TheVariants as status
+use Rattle.vtep_base.specs.declared.answers.LineReason.{LineReason}
+use Rattle.vtep_base.specs.declared.answers.LineReason.TheVariants as reason
+use Rattle.vtep_base.proofs.Told.{grows-none, shrinks-none}
+use Rattle.fabric_world.specs.declared.Form.{Form}
+use Rattle.fabric_world.specs.Script.{Stage, Waiting, Going, Over, Stopped, Played, closed, Reading, Short, IsGoing, Answers, AnswersUsage, Ran}
+use Rattle.fabric_replay.specs.Outcomes.{Wrote, WroteUsage}
+
+-- ---- the end of a script
+
+pub same_close : (p : Played) (mid new : Stage) → mid ≡ p.stage
+    → closed reason.First reason.End (record { text = p.text; stage = mid }) ≡ record { text = p.text; stage = new }
+    → (closed reason.First reason.End p).stage ≡ new
+same_close p mid new e h = ap (λ s. (closed reason.First reason.End (record { text = p.text; stage = s })).stage) (sym e) ∙ ap (λ q. q.stage) h
+
+pub closed_ends : (a b : LineReason) (p : Played) → IsGoing (closed a b p).stage → ⊥
+closed_ends a b p = by p.stage
+  where
+    by : (s : Stage) → IsGoing (closed a b (record { text = p.text; stage = s })).stage → ⊥
+    by (Waiting n) k = k
+    by (Going n w) k = k
+    by Over k = k
+    by (Stopped n why) k = k
+
+-- a script that has ended has its answer however the reading ended
+pub ended_answers : (p : Played) (how : Reading) (o : Bytes) (st : Status) → (IsGoing p.stage → ⊥) → Answers p Short o st → Answers p how o st
+ended_answers p how o status.Done n h = h
+ended_answers p how o status.Refused n h = h
+ended_answers p how o status.ReadFault n h = absurd (n h.0)
+ended_answers p how o status.WriteFault n h = h
+ended_answers p how o status.NoMemory n h = h
+ended_answers p how o _ n h = absurd h
+
+same_answers : (p q : Played) (o : Bytes) (st : Status) → q ≡ p → Answers q Short o st → Answers p Short o st
+same_answers p q o st e h = rw (sym e) h
+
+pub ended_wrote : (p q : Played) (how : Reading) (old new : SinkState) (st : Status) → q ≡ p → (IsGoing p.stage → ⊥) → Wrote q Short old new st → Wrote p how old new st
+ended_wrote p q how old new st e n w = record {
+  output = w.output;
+  wrote = w.wrote;
+  faults = w.faults;
+  answers = ended_answers p how w.output st n (same_answers p q w.output st e w.answers);
+  no_read_fault = w.no_read_fault;
+  cause = w.cause;
+}
+
+pub same_played : (p : Played) (t front : Bytes) (s : Stage) → t ≡ front ++ p.text → front ≡ [] → s ≡ p.stage → record { text = t; stage = s } ≡ p
+same_played p t front s e none f =
+    ap (λ x. record { text = x; stage = s }) (e ∙ ap (λ x. x ++ p.text) none) ∙ ap (λ x. record { text = p.text; stage = x }) f
+
+-- words of no form
+pub ends_usage : (f : Option Form) (source : SourceState) (sink last : SinkState) (a : Status) → f ≡ None → WroteUsage sink last a → Ran f source source sink last a
+ends_usage f source sink last a e w = rw e ran
+  where
+    no_read : (o : Bytes) (a : Status) → AnswersUsage o a → a ≡ status.ReadFault → ⊥
+    no_read o status.ReadFault h e = h
+    no_read o status.Usage h e = absurd (grind arith)
+    no_read o status.WriteFault h e = absurd (grind arith)
+    no_read o _ h e = absurd h
+
+    ran : Ran None source source sink last a
+    ran = record {
+      text = [];
+      written = w.output;
+      took = grows-none source.taken;
+      left = shrinks-none source.left;
+      wrote = w.wrote;
+      answers = (refl, w.answers);
+      read_fault = λ r. absurd (no_read w.output a w.answers r);
+      write_fault = w.cause;
+      source_faults = omega arith;
+      sink_faults = w.faults;
+    }

@@ -1,0 +1,4 @@
+pub mod Seen
+pub mod PlainWorld
+pub mod Stages
+pub mod Outcomes

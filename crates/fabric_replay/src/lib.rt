@@ -1,0 +1,13 @@
+//! Scripts: their lines, what the fabric does with them, and the top call.
+#![tactic(auto)]
+
+mod lines;
+mod plain;
+mod replay;
+mod script;
+mod words;
+
+pub use crate::replay::run;
+
+#[cfg(test)]
+mod tests;

@@ -1,0 +1,306 @@
+//! What the words of a line say.
+
+ghost use Rattle.std.specs.Prelude.{◌≡◌, ◌≤◌, ◌<◌, map, Ok, Err, None, Some, MatchResult, IfOk, length, slice_get};
+ghost use Rattle.vtep_base.specs.Texts.{name_of, ipv4_of, vni_of, vlan_of};
+ghost use Rattle.fabric_world.specs.Lines.{kind_of, kind_text, arity, mode_of, hex_of, word_at, column_at, last_end, counted, instruction, read_words, read_line, first_word, known_kind};
+ghost use Rattle.fabric_world.specs.Text as text;
+ghost use Rattle.fabric_replay.specs.Seen.{seen, Reads, AllFit};
+
+use crate::words::{Word, bad_byte};
+use fabric_world::{Instruction, Kind, Line, Network, Refusal};
+use hex::FromHexError;
+use std::alloc::Global;
+use vtep_base::{Binding, Bytes, Ipv4, LineReason, Mode, Name, OutOfMemory, Vlan, Vni};
+
+/// Why a line is not read.
+#[derive(Clone, Copy, Debug)]
+pub(crate) enum LineFault {
+    OutOfMemory,
+    Refused(Refusal),
+}
+
+impl From<OutOfMemory> for LineFault {
+    ghost use Rattle.std.specs.Prelude.{◌≡◌};
+    ghost use Rattle.fabric_replay.specs.declared.lines.LineFault.TheVariants as line_fault;
+
+    ghost from_gives = { λ _ e. e ≡ line_fault.OutOfMemory };
+
+    fn from(_error: OutOfMemory) -> LineFault {
+        LineFault::OutOfMemory
+    }
+}
+
+impl From<Refusal> for LineFault {
+    ghost use Rattle.std.specs.Prelude.{◌≡◌};
+    ghost use Rattle.fabric_replay.specs.declared.lines.LineFault.TheVariants as line_fault;
+
+    ghost from_gives = { λ refusal e. e ≡ line_fault.Refused refusal };
+
+    fn from(refusal: Refusal) -> LineFault {
+        LineFault::Refused(refusal)
+    }
+}
+
+fn refusal(column: usize, reason: LineReason) -> Refusal
+    ensures { result ≡ record { column = column; reason = reason } }
+{
+    Refusal { column, reason }
+}
+
+/// All kinds of lines.
+const KINDS: [Kind; 7] = [
+    Kind::Gateway,
+    Kind::Port,
+    Kind::Switch,
+    Kind::Bind,
+    Kind::Settle,
+    Kind::Frame,
+    Kind::End,
+];
+
+/// The first word of a kind.
+fn kind_text(kind: Kind) -> &'static [u8]
+    ensures { result.now ≡ kind_text kind }
+{
+    match kind {
+        Kind::Gateway => b"gateway",
+        Kind::Port => b"port",
+        Kind::Switch => b"switch",
+        Kind::Bind => b"bind",
+        Kind::Settle => b"settle",
+        Kind::Frame => b"frame",
+        Kind::End => b"end",
+    }
+}
+
+/// The kind of a line, by its first word.
+fn kind_of(word: &[u8]) -> Option<Kind>
+    ensures { result ≡ kind_of word.now }
+{
+    'kinds: for kind in KINDS {
+        if word == kind_text(kind) {
+            return Some(kind);
+        }
+    }
+    None
+}
+
+/// How many words follow the first.
+fn arity(kind: Kind) -> usize
+    ensures value { result ≡ arity kind }
+    ensures few { result ≤ 8 }
+{
+    match kind {
+        Kind::Gateway | Kind::Port => 2,
+        Kind::Switch | Kind::Frame => 3,
+        Kind::Bind => 4,
+        Kind::Settle | Kind::End => 0,
+    }
+}
+
+fn word<'a>(words: &[Word<'a>], place: usize) -> Result<Word<'a>, Refusal>
+    ensures { MatchResult result (λ w. slice_get (map seen words.now) place ≡ Some (seen w)) (λ e. (slice_get (map seen words.now) place ≡ None) × (e ≡ record { column = 1; reason = LineReason.Words })) }
+{
+    match words.get(place) {
+        Some(word) => Ok(*word),
+        None => Err(refusal(1, LineReason::Words)),
+    }
+}
+
+fn name_at(words: &[Word<'_>], place: usize) -> Result<Name, Refusal>
+    ensures { result ≡ word_at name_of (map seen words.now) place }
+{
+    let word = word(words, place)?;
+    match Name::parse(word.bytes) {
+        Ok(name) => Ok(name),
+        Err(_) => Err(refusal(word.column, LineReason::Value)),
+    }
+}
+
+fn ipv4_at(words: &[Word<'_>], place: usize) -> Result<Ipv4, Refusal>
+    ensures { result ≡ word_at ipv4_of (map seen words.now) place }
+{
+    let word = word(words, place)?;
+    match Ipv4::parse(word.bytes) {
+        Ok(ip) => Ok(ip),
+        Err(_) => Err(refusal(word.column, LineReason::Value)),
+    }
+}
+
+fn vni_at(words: &[Word<'_>], place: usize) -> Result<Vni, Refusal>
+    ensures { result ≡ word_at vni_of (map seen words.now) place }
+{
+    let word = word(words, place)?;
+    match Vni::parse(word.bytes) {
+        Ok(vni) => Ok(vni),
+        Err(_) => Err(refusal(word.column, LineReason::Value)),
+    }
+}
+
+fn vlan_at(words: &[Word<'_>], place: usize) -> Result<Vlan, Refusal>
+    ensures { result ≡ word_at vlan_of (map seen words.now) place }
+{
+    let word = word(words, place)?;
+    match Vlan::parse(word.bytes) {
+        Ok(vlan) => Ok(vlan),
+        Err(_) => Err(refusal(word.column, LineReason::Value)),
+    }
+}
+
+fn mode_at(words: &[Word<'_>], place: usize) -> Result<Mode, Refusal>
+    ensures { result ≡ word_at mode_of (map seen words.now) place }
+{
+    let word = word(words, place)?;
+    match word.bytes {
+        b"source" => Ok(Mode::Source),
+        b"service" => Ok(Mode::Service),
+        _ => Err(refusal(word.column, LineReason::Value)),
+    }
+}
+
+/// The bytes that a hexadecimal word stands for; `-` is no bytes.
+fn hex_at(alloc: Global, words: &[Word<'_>], place: usize) -> Result<Bytes, LineFault>
+    ensures { Reads result (word_at hex_of (map seen words.now) place) }
+{
+    let word = word(words, place)?;
+    if word.bytes == b"-".as_slice() {
+        return Ok(Bytes::new(alloc));
+    }
+    if word.bytes.is_empty() {
+        return Err(refusal(word.column, LineReason::Value).into());
+    }
+    match hex::decode(alloc, word.bytes) {
+        Ok(bytes) => Ok(Bytes::from_vec(bytes)),
+        Err(FromHexError::OutOfMemory) => Err(LineFault::OutOfMemory),
+        Err(_) => Err(refusal(word.column, LineReason::Value).into()),
+    }
+}
+
+/// One past the last byte of the last word.
+fn last_end(words: &[Word<'_>]) -> usize
+    requires { AllFit words.now }
+    ensures { result ≡ last_end (map seen words.now) }
+{
+    let mut end = 1;
+    'words: for word in words {
+        end = word.column + word.bytes.len();
+    }
+    end
+}
+
+/// No word is surplus, and none is missing.
+fn counted(kind: Kind, words: &[Word<'_>]) -> Result<(), Refusal>
+    requires { AllFit words.now }
+    ensures { MatchResult result (λ _. counted kind (map seen words.now) ≡ Ok kind) (λ e. counted kind (map seen words.now) ≡ Err e) }
+{
+    let wanted = arity(kind) + 1;
+    if words.len() > wanted {
+        return Err(refusal(words[wanted].column, LineReason::Words));
+    }
+    if words.len() < wanted {
+        return Err(refusal(last_end(words), LineReason::Words));
+    }
+    Ok(())
+}
+
+/// What the words of a line of this kind say.
+fn instruction(alloc: Global, kind: Kind, words: &[Word<'_>]) -> Result<Instruction, LineFault>
+    ensures { Reads result (instruction kind (map seen words.now)) }
+{
+    match kind {
+        Kind::Gateway => gateway(words),
+        Kind::Port => port(words),
+        Kind::Switch => switch(words),
+        Kind::Bind => bind(words),
+        Kind::Settle => Ok(Instruction::Do(Line::Settle)),
+        Kind::Frame => frame(alloc, words),
+        Kind::End => Ok(Instruction::End),
+    }
+}
+
+fn gateway(words: &[Word<'_>]) -> Result<Instruction, LineFault>
+    ensures { Reads result (instruction Kind.Gateway (map seen words.now)) }
+{
+    let name = name_at(words, 1)?;
+    let ip = ipv4_at(words, 2)?;
+    Ok(Instruction::Do(Line::Gateway { name, ip }))
+}
+
+fn port(words: &[Word<'_>]) -> Result<Instruction, LineFault>
+    ensures { Reads result (instruction Kind.Port (map seen words.now)) }
+{
+    let gateway = name_at(words, 1)?;
+    let port = name_at(words, 2)?;
+    Ok(Instruction::Do(Line::Port { gateway, port }))
+}
+
+fn switch(words: &[Word<'_>]) -> Result<Instruction, LineFault>
+    ensures { Reads result (instruction Kind.Switch (map seen words.now)) }
+{
+    let name = name_at(words, 1)?;
+    let vni = vni_at(words, 2)?;
+    let mode = mode_at(words, 3)?;
+    Ok(Instruction::Do(Line::Switch {
+        name,
+        network: Network { vni, mode },
+    }))
+}
+
+fn bind(words: &[Word<'_>]) -> Result<Instruction, LineFault>
+    ensures { Reads result (instruction Kind.Bind (map seen words.now)) }
+{
+    let switch = name_at(words, 1)?;
+    let gateway = name_at(words, 2)?;
+    let port = name_at(words, 3)?;
+    let vlan = vlan_at(words, 4)?;
+    let binding = Binding {
+        gateway,
+        port,
+        vlan,
+    };
+    Ok(Instruction::Do(Line::Bind { switch, binding }))
+}
+
+fn frame(alloc: Global, words: &[Word<'_>]) -> Result<Instruction, LineFault>
+    ensures { Reads result (instruction Kind.Frame (map seen words.now)) }
+{
+    let gateway = name_at(words, 1)?;
+    let port = name_at(words, 2)?;
+    let bytes = hex_at(alloc, words, 3)?;
+    Ok(Instruction::Do(Line::Frame {
+        gateway,
+        port,
+        bytes,
+    }))
+}
+
+/// What the words of a line say, or its first fault.
+fn read_words(alloc: Global, words: &[Word<'_>]) -> Result<Instruction, LineFault>
+    requires { AllFit words.now }
+    ensures { Reads result (read_words (map seen words.now)) }
+{
+    let Some(first) = words.first() else {
+        return Err(refusal(1, LineReason::Command).into());
+    };
+    let Some(kind) = kind_of(first.bytes) else {
+        return Err(refusal(first.column, LineReason::Command).into());
+    };
+    counted(kind, words)?;
+    instruction(alloc, kind, words)
+}
+
+/// What a line says, or its first fault.
+pub(crate) fn read_line(
+    alloc: Global,
+    line: &[u8],
+    words: &[Word<'_>],
+) -> Result<Instruction, LineFault>
+    requires fit { AllFit words.now }
+    requires words { map seen words.now ≡ text.words line.now }
+    ensures { Reads result (read_line line.now) }
+{
+    if let Some(column) = bad_byte(line) {
+        return Err(refusal(column, LineReason::Byte).into());
+    }
+    read_words(alloc, words)
+}

@@ -1,0 +1,374 @@
+//! The plain world: one gateway, the intent, and the bindings that are installed.
+
+ghost use Rattle.std.specs.Prelude.{◌≡◌, ◌++◌, [], length, map, filter, find, option_map, List, ℕ, IfOk, OnOk};
+ghost use Rattle.std.specs.List.{list_any};
+ghost use Rattle.fabric_world.specs.World.{start, has_vni, wanted, is_service, is_at_place, is_other_member, leaves, flooded, to_itself, hex_word, frame_kind_text, output_text, outputs_text, Drop, No_frame};
+ghost use Rattle.vtep_base.specs.Maps as maps;
+ghost use Rattle.fabric_replay.specs.PlainWorld.{world_of, site_of, is_wanted, Runs};
+
+use ether_frames::{Frame, FrameFault, FrameKind, read, write};
+use fabric_world::{Fault, Line, Network};
+use itoa::Buffer;
+use std::alloc::Global;
+use std::collections::BTreeMap;
+use vtep_base::{Binding, Bytes, Inner, Ipv4, Mode, Name, OutOfMemory, Vlan, Vni};
+
+/// The most ports of a gateway.
+const MOST_PORTS: usize = 64;
+
+/// The most switches of the intent.
+const MOST_SWITCHES: usize = 1024;
+
+/// One gateway, once it has a name, and what the operator wants.
+#[derive(Drop)]
+pub(crate) struct Plain {
+    name: Option<Name>,
+    ip: Ipv4,
+    ports: Vec<Name>,
+    installed: Vec<(Binding, Name)>,
+    switches: BTreeMap<Name, Network>,
+    bindings: BTreeMap<Binding, Name>,
+}
+
+impl Plain {
+    /// No gateway, no switch, no binding.
+    pub(crate) fn new(alloc: Global) -> Plain
+        ensures { world_of result ≡ start }
+    {
+        Plain {
+            name: None,
+            ip: Ipv4::from_bits(0),
+            ports: Vec::new(alloc),
+            installed: Vec::new(alloc),
+            switches: BTreeMap::new(alloc),
+            bindings: BTreeMap::new(alloc),
+        }
+    }
+
+    fn knows(&self, gateway: &Name) -> bool
+        ensures { result ≡ maps.has (world_of self.now).sites gateway.now }
+    {
+        match &self.name {
+            Some(name) => name == gateway,
+            None => false,
+        }
+    }
+
+    fn add_gateway(&mut self, name: Name, ip: Ipv4) -> Option<Fault>
+        ensures { Runs (world_of self.old) (world_of self.new) [] [] (Line.Gateway name ip) result }
+    {
+        if self.knows(&name) {
+            return Some(Fault::Repeated(1));
+        }
+        if self.name.is_some() {
+            return Some(if self.ip == ip {
+                Fault::Repeated(2)
+            } else {
+                Fault::Limit
+            });
+        }
+        self.name = Some(name);
+        self.ip = ip;
+        self.ports.clear();
+        self.installed.clear();
+        None
+    }
+
+    fn add_port(&mut self, gateway: &Name, port: Name) -> Result<Option<Fault>, OutOfMemory>
+        ensures { IfOk result (λ fault. Runs (world_of self.old) (world_of self.new) [] [] (Line.Port gateway.now port) fault) }
+    {
+        if !self.knows(gateway) {
+            return Ok(Some(Fault::Unknown(1)));
+        }
+        if self.ports.contains(&port) {
+            return Ok(Some(Fault::Repeated(2)));
+        }
+        if self.ports.len() >= MOST_PORTS {
+            return Ok(Some(Fault::Limit));
+        }
+        self.ports.push(port)?;
+        Ok(None)
+    }
+
+    fn has_vni(&self, vni: Vni) -> bool
+        ensures { result ≡ list_any (has_vni vni) (world_of self.now).intent.switches.list }
+    {
+        'switches: for (_name, network) in self.switches.iter() {
+            if network.vni == vni {
+                return true;
+            }
+        }
+        false
+    }
+
+    fn has_switch(&self, name: &Name) -> bool
+        ensures { result ≡ maps.has (world_of self.now).intent.switches name.now }
+    {
+        self.switches.contains_key(name)
+    }
+
+    fn switch_count(&self) -> usize
+        ensures { result ≡ maps.size (world_of self.now).intent.switches }
+    {
+        self.switches.len()
+    }
+
+    fn is_bound(&self, binding: &Binding) -> bool
+        ensures { result ≡ maps.has (world_of self.now).intent.bindings binding.now }
+    {
+        self.bindings.contains_key(binding)
+    }
+
+    fn add_switch(&mut self, name: Name, network: Network) -> Result<Option<Fault>, OutOfMemory>
+        ensures { IfOk result (λ fault. Runs (world_of self.old) (world_of self.new) [] [] (Line.Switch name network) fault) }
+    {
+        if self.has_switch(&name) {
+            return Ok(Some(Fault::Repeated(1)));
+        }
+        if self.has_vni(network.vni) {
+            return Ok(Some(Fault::Repeated(2)));
+        }
+        if self.switch_count() >= MOST_SWITCHES {
+            return Ok(Some(Fault::Limit));
+        }
+        if is_service(network.mode) {
+            return Ok(Some(Fault::Use));
+        }
+        self.switches.insert(name, network)?;
+        Ok(None)
+    }
+
+    fn bind(&mut self, switch: Name, binding: Binding) -> Result<Option<Fault>, OutOfMemory>
+        ensures { IfOk result (λ fault. Runs (world_of self.old) (world_of self.new) [] [] (Line.Bind switch binding) fault) }
+    {
+        if !self.has_switch(&switch) {
+            return Ok(Some(Fault::Unknown(1)));
+        }
+        if !self.knows(&binding.gateway) {
+            return Ok(Some(Fault::Unknown(2)));
+        }
+        if self.is_bound(&binding) {
+            return Ok(Some(Fault::Repeated(3)));
+        }
+        self.bindings.insert(binding, switch)?;
+        Ok(None)
+    }
+
+    fn is_wanted(&self, gateway: &Name, binding: &Binding) -> bool
+        ensures { result ≡ is_wanted self.now.ports.items gateway.now binding.now }
+    {
+        *gateway == binding.gateway && self.ports.contains(&binding.port)
+    }
+
+    /// The bindings of the intent on ports that this gateway has.
+    fn wanted(&self, alloc: Global, gateway: &Name) -> Result<Vec<(Binding, Name)>, OutOfMemory>
+        ensures { IfOk result (λ found. found.items ≡ wanted (world_of self.now).intent gateway.now (site_of self.now)) }
+    {
+        let mut found = Vec::new(alloc);
+        'bindings: for (binding, switch) in self.bindings.iter() {
+            if self.is_wanted(gateway, binding) {
+                found.push((*binding, *switch))?;
+            }
+        }
+        Ok(found)
+    }
+
+    fn settle(&mut self, alloc: Global, out: &mut Bytes) -> Result<Option<Fault>, OutOfMemory>
+        ensures { IfOk result (λ fault. Runs (world_of self.old) (world_of self.new) out.old out.new Line.Settle fault) }
+    {
+        if let Some(name) = self.name {
+            self.installed = self.wanted(alloc, &name)?;
+        }
+        out.append(b"settled\n")?;
+        Ok(None)
+    }
+
+    /// The switch of the installed binding of a VLAN of a port.
+    fn switch_at(&self, port: &Name, vlan: Vlan) -> Option<Name>
+        ensures { result ≡ option_map (λ e. e.1) (find (is_at_place port.now vlan) self.now.installed.items) }
+    {
+        'installed: for entry in &self.installed {
+            if is_at_place(entry, port, vlan) {
+                return Some(entry.1);
+            }
+        }
+        None
+    }
+
+    /// Writes the frame at each installed binding of the switch but the one where it entered.
+    fn flood(
+        &self,
+        alloc: Global,
+        gateway: &Name,
+        switch: &Name,
+        port: &Name,
+        frame: &Frame<'_>,
+        out: &mut Bytes,
+    ) -> Result<(), OutOfMemory>
+        ensures { OnOk result (out.new ≡ out.old ++ outputs_text (map (leaves gateway.now frame.now.inner) (filter (is_other_member switch.now port.now frame.now.vlan) self.now.installed.items))) }
+    {
+        'installed: for entry in &self.installed {
+            if is_other_member(entry, switch, port, frame.vlan) {
+                write_frame(alloc, gateway, entry, &frame.inner, out)?;
+            }
+        }
+        Ok(())
+    }
+
+    /// Takes a frame that was read, and writes where it leaves or that it is dropped.
+    fn enter(
+        &self,
+        alloc: Global,
+        gateway: &Name,
+        port: &Name,
+        frame: &Frame<'_>,
+        out: &mut Bytes,
+    ) -> Result<(), OutOfMemory>
+        ensures { OnOk result (out.new ≡ out.old ++ outputs_text (flooded gateway.now (site_of self.now) port.now frame.now.vlan frame.now.inner (find (is_at_place port.now frame.now.vlan) self.now.installed.items))) }
+    {
+        let Some(switch) = self.switch_at(port, frame.vlan) else {
+            return out.append_all(&[b"drop ", gateway.as_slice(), b" unbound\n"]);
+        };
+        if to_itself(&frame.inner) {
+            return Ok(());
+        }
+        self.flood(alloc, gateway, &switch, port, frame, out)
+    }
+
+    fn frame(
+        &self,
+        alloc: Global,
+        gateway: &Name,
+        port: &Name,
+        bytes: &[u8],
+        out: &mut Bytes,
+    ) -> Result<Option<Fault>, OutOfMemory>
+        ensures { IfOk result (λ fault. Runs (world_of self.now) (world_of self.now) out.old out.new (Line.Frame gateway.now port.now bytes.now) fault) }
+    {
+        if !self.knows(gateway) {
+            return Ok(Some(Fault::Unknown(1)));
+        }
+        if !self.ports.contains(port) {
+            return Ok(Some(Fault::Unknown(2)));
+        }
+        match read(bytes) {
+            Ok(frame) => self.enter(alloc, gateway, port, &frame, out)?,
+            Err(fault) => write_fault(gateway, fault, out)?,
+        }
+        Ok(None)
+    }
+
+    /// Runs a line and appends what it writes, or says why it is refused and changes nothing.
+    pub(crate) fn run(
+        &mut self,
+        alloc: Global,
+        line: &Line,
+        out: &mut Bytes,
+    ) -> Result<Option<Fault>, OutOfMemory>
+        ensures { IfOk result (λ fault. Runs (world_of self.old) (world_of self.new) out.old out.new line.now fault) }
+    {
+        match line {
+            Line::Gateway { name, ip } => Ok(self.add_gateway(*name, *ip)),
+            Line::Port { gateway, port } => self.add_port(gateway, *port),
+            Line::Switch { name, network } => self.add_switch(*name, *network),
+            Line::Bind { switch, binding } => self.bind(*switch, *binding),
+            Line::Settle => self.settle(alloc, out),
+            Line::Frame {
+                gateway,
+                port,
+                bytes,
+            } => self.frame(alloc, gateway, port, bytes.as_slice(), out),
+        }
+    }
+}
+
+fn is_service(mode: Mode) -> bool
+    ensures { result ≡ is_service mode }
+{
+    match mode {
+        Mode::Source => false,
+        Mode::Service => true,
+    }
+}
+
+fn is_at_place(entry: &(Binding, Name), port: &Name, vlan: Vlan) -> bool
+    ensures { result ≡ is_at_place port.now vlan entry.now }
+{
+    entry.0.port == *port && entry.0.vlan == vlan
+}
+
+/// The entry is of the switch, and at another place than this.
+fn is_other_member(entry: &(Binding, Name), switch: &Name, port: &Name, vlan: Vlan) -> bool
+    ensures { result ≡ is_other_member switch.now port.now vlan entry.now }
+{
+    entry.1 == *switch && !is_at_place(entry, port, vlan)
+}
+
+/// The destination of the frame is its source.
+fn to_itself(inner: &Inner<'_>) -> bool
+    ensures { result ≡ to_itself inner.now }
+{
+    let (destination, source) = inner.addresses().split_at(6);
+    destination == source
+}
+
+/// Writes that a frame leaves at a binding.
+fn write_frame(
+    alloc: Global,
+    gateway: &Name,
+    entry: &(Binding, Name),
+    inner: &Inner<'_>,
+    out: &mut Bytes,
+) -> Result<(), OutOfMemory>
+    ensures { OnOk result (out.new ≡ out.old ++ output_text (leaves gateway.now inner.now entry.now)) }
+{
+    let mut bytes = Bytes::new(alloc);
+    write(entry.0.vlan, inner, &mut bytes)?;
+    let text = hex_word(alloc, bytes.as_slice())?;
+    out.append_all(&[
+        b"out ",
+        gateway.as_slice(),
+        b" ",
+        entry.0.port.as_slice(),
+        b" ",
+        text.as_slice(),
+        b"\n",
+    ])
+}
+
+/// Bytes as a hexadecimal word; no bytes are `-`.
+fn hex_word(alloc: Global, bytes: &[u8]) -> Result<Bytes, OutOfMemory>
+    ensures { IfOk result (λ word. word ≡ hex_word bytes.now) }
+{
+    if bytes.is_empty() {
+        return Bytes::from_slice(alloc, b"-");
+    }
+    let text = hex::encode(alloc, bytes)?;
+    Bytes::from_slice(alloc, text.as_bytes())
+}
+
+fn frame_kind_text(kind: &FrameKind) -> &[u8]
+    ensures { result.now ≡ frame_kind_text kind.now }
+{
+    match kind {
+        FrameKind::Short => b"Short",
+        FrameKind::SecondTag => b"SecondTag",
+        FrameKind::Long => b"Long",
+    }
+}
+
+/// Writes that bytes are no frame.
+fn write_fault(gateway: &Name, fault: FrameFault, out: &mut Bytes) -> Result<(), OutOfMemory>
+    ensures { OnOk result (out.new ≡ out.old ++ output_text (Drop gateway.now (No_frame fault))) }
+{
+    let mut offset = Buffer::new();
+    out.append_all(&[
+        b"drop ",
+        gateway.as_slice(),
+        b" frame ",
+        frame_kind_text(&fault.kind),
+        b" ",
+        offset.format(fault.offset).as_bytes(),
+        b"\n",
+    ])
+}

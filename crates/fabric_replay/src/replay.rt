@@ -1,0 +1,255 @@
+//! The top call.
+
+ghost use Rattle.std.specs.Prelude.{◌≡◌, ◌<◌, ◌≤◌, ◌+◌, ◌++◌, ◌^◌, [], List, length, map, Option, Some, None, OnOk, IfNone};
+ghost use Rattle.std.specs.String.{string_bytes};
+ghost use Rattle.vtep_base.specs.Outside.{SourceState, SinkState, Rose};
+ghost use Rattle.fabric_world.specs.Delivery.{DeliversInstalled};
+ghost use Rattle.fabric_world.specs.Text.{cut};
+ghost use Rattle.fabric_world.specs.Script.{Stage, Stopped, play, closing, Short, Ended, Full, form_of, usage_line, reason_text, refusal_text, Ran, Completes};
+ghost use Rattle.fabric_replay.specs.Stages.{stage_of};
+ghost use Rattle.fabric_replay.specs.Outcomes.{PutsAll, Wrote, Continues, status_at, WroteUsage};
+
+use crate::script::{Place, Script, State};
+use fabric_world::{Form, Refusal};
+use itoa::Buffer;
+use std::alloc::Global;
+use vtep_base::{Bytes, LineReason, OutOfMemory, Put, Sink, Source, Status, Took};
+
+/// The most bytes of a script.
+const MOST: usize = 1 << 28;
+
+/// The most bytes that are taken at once.
+const PIECE: usize = 1 << 16;
+
+/// How the program is called.
+const USAGE: &[u8] =
+    b"usage: replay | replay --generate n | inspect | serve name ip address sessions port...\n";
+
+/// Writes all bytes, unless the sink fails.
+fn put_all<K: Sink>(sink: &mut K, bytes: &[u8]) -> Result<(), Status>
+    ensures { PutsAll
+        (record { written = K.written sink.old; faults = K.faults sink.old })
+        (record { written = K.written sink.new; faults = K.faults sink.new })
+        bytes.now result }
+{
+    let mut rest = bytes;
+    'rest: while !rest.is_empty() {
+        match sink.put(rest) {
+            Put::Put(count) => {
+                let (_, behind) = rest.split_at(count);
+                rest = behind;
+            }
+            Put::Failed => return Err(Status::WriteFault),
+        }
+    }
+    Ok(())
+}
+
+/// The text of a reason.
+fn reason_text(reason: &LineReason) -> &[u8]
+    ensures { result.now ≡ reason_text reason.now }
+{
+    match reason {
+        LineReason::Byte => b"byte",
+        LineReason::First => b"first",
+        LineReason::Command => b"command",
+        LineReason::Words => b"words",
+        LineReason::Value => b"value",
+        LineReason::Unknown => b"unknown",
+        LineReason::Repeated => b"repeated",
+        LineReason::Limit => b"limit",
+        LineReason::Use => b"use",
+        LineReason::End => b"end",
+        LineReason::Long => b"long",
+    }
+}
+
+/// Appends the line of a refusal.
+fn write_refusal(number: u64, refusal: &Refusal, out: &mut Bytes) -> Result<(), OutOfMemory>
+    ensures { OnOk result (out.new ≡ out.old ++ refusal_text (Stopped number refusal.now)) }
+{
+    let mut line = Buffer::new();
+    let mut column = Buffer::new();
+    out.append_all(&[
+        b"refused ",
+        line.format(number).as_bytes(),
+        b" ",
+        column.format(refusal.column).as_bytes(),
+        b" ",
+        reason_text(&refusal.reason),
+        b"\n",
+    ])
+}
+
+/// Appends the line of the refusal where the script was refused.
+fn show(state: &State, out: &mut Bytes) -> Result<(), OutOfMemory>
+    ensures { OnOk result (out.new ≡ out.old ++ refusal_text (stage_of state.now)) }
+{
+    match &state.place {
+        Place::Stopped(refusal) => write_refusal(state.number, refusal, out),
+        Place::Waiting | Place::Going | Place::Over => Ok(()),
+    }
+}
+
+/// How a run ends at a stage, where it does.
+fn status_at(state: &State) -> Option<Status>
+    ensures { result ≡ status_at (stage_of state.now) }
+{
+    match state.place {
+        Place::Waiting | Place::Going => None,
+        Place::Over => Some(Status::Done),
+        Place::Stopped(_) => Some(Status::Refused),
+    }
+}
+
+/// Writes what was played and the refusal, where there is one, and says how the run ends, where it does.
+fn put_played<K: Sink>(state: &State, out: &mut Bytes, sink: &mut K) -> Option<Status>
+    ensures ends { Continues (record { text = out.old; stage = stage_of state.now })
+        (record { written = K.written sink.old; faults = K.faults sink.old })
+        (record { written = K.written sink.new; faults = K.faults sink.new }) result }
+{
+    let Ok(()) = show(state, out) else {
+        return Some(Status::NoMemory);
+    };
+    match put_all(sink, out.as_slice()) {
+        Ok(()) => status_at(state),
+        Err(status) => Some(status),
+    }
+}
+
+/// Runs the lines that a piece makes whole, and writes their output.
+fn play_piece<K: Sink>(
+    alloc: Global,
+    script: &mut Script,
+    piece: &[u8],
+    out: &mut Bytes,
+    sink: &mut K,
+) -> Option<Status>
+    requires room { script.old.state.number + length piece.now < 2 ^ 62 }
+    ensures ends { Continues (play (stage_of script.old.state) (cut script.old.front.items piece.now).0)
+        (record { written = K.written sink.old; faults = K.faults sink.old })
+        (record { written = K.written sink.new; faults = K.faults sink.new }) result }
+    ensures stage { IfNone result (stage_of script.new.state ≡ (play (stage_of script.old.state) (cut script.old.front.items piece.now).0).stage) }
+    ensures front { IfNone result (script.new.front.items ≡ (cut script.old.front.items piece.now).1) }
+    ensures number { IfNone result (script.new.state.number ≤ script.old.state.number + length piece.now) }
+{
+    out.clear();
+    let Ok(()) = script.feed(alloc, piece, out) else {
+        return Some(Status::NoMemory);
+    };
+    put_played(&script.state, out, sink)
+}
+
+/// Ends a script whose source ended.
+fn finish<K: Sink>(alloc: Global, script: &mut Script, out: &mut Bytes, sink: &mut K) -> Status
+    requires room { script.old.state.number < 2 ^ 62 }
+    ensures { Wrote (closing Ended (stage_of script.old.state) script.old.front.items) Ended
+        (record { written = K.written sink.old; faults = K.faults sink.old })
+        (record { written = K.written sink.new; faults = K.faults sink.new }) result }
+{
+    out.clear();
+    let Ok(()) = script.end(alloc, out) else {
+        return Status::NoMemory;
+    };
+    match put_played(&script.state, out, sink) {
+        Some(status) => status,
+        None => unreachable!(),
+    }
+}
+
+/// Ends a script of which no more may be read.
+fn fill<K: Sink>(script: &mut Script, out: &mut Bytes, sink: &mut K) -> Status
+    ensures { Wrote (closing Full (stage_of script.old.state) script.old.front.items) Full
+        (record { written = K.written sink.old; faults = K.faults sink.old })
+        (record { written = K.written sink.new; faults = K.faults sink.new }) result }
+{
+    out.clear();
+    script.fill();
+    match put_played(&script.state, out, sink) {
+        Some(status) => status,
+        None => unreachable!(),
+    }
+}
+
+/// Runs the script that is read.
+fn replay<S: Source, K: Sink>(alloc: Global, source: &mut S, sink: &mut K) -> Status
+    ensures { Ran (Some Form.Replay)
+        (record { left = S.left source.old; taken = S.taken source.old; faults = S.faults source.old; ends = S.ends source.old })
+        (record { left = S.left source.new; taken = S.taken source.new; faults = S.faults source.new; ends = S.ends source.new })
+        (record { written = K.written sink.old; faults = K.faults sink.old })
+        (record { written = K.written sink.new; faults = K.faults sink.new }) result }
+{
+    let Ok(mut buffer) = vec![in alloc; 0u8; PIECE] else {
+        return Status::NoMemory;
+    };
+    let mut out = Bytes::new(alloc);
+    let mut script = Script::new(alloc);
+    let mut left = MOST;
+    'piece: while left > 0 {
+        let (room, _) = buffer.split_at_mut(left.min(PIECE));
+        match source.take(room) {
+            Took::Took(count) => {
+                let (piece, _) = room.split_at(count);
+                if let Some(status) = play_piece(alloc, &mut script, piece, &mut out, sink) {
+                    return status;
+                }
+                left -= count;
+            }
+            Took::End => return finish(alloc, &mut script, &mut out, sink),
+            Took::Failed => return Status::ReadFault,
+        }
+    }
+    fill(&mut script, &mut out, sink)
+}
+
+/// What the words of the program ask for.
+fn form_of(words: &[String]) -> Option<Form>
+    ensures { result ≡ form_of (map string_bytes words.now) }
+{
+    match words {
+        [word] if word.as_bytes() == b"replay".as_slice() => Some(Form::Replay),
+        _ => None,
+    }
+}
+
+/// Says how the program is called.
+fn usage<K: Sink>(sink: &mut K) -> Status
+    ensures { WroteUsage
+        (record { written = K.written sink.old; faults = K.faults sink.old })
+        (record { written = K.written sink.new; faults = K.faults sink.new }) result }
+{
+    match put_all(sink, USAGE) {
+        Ok(()) => Status::Usage,
+        Err(status) => status,
+    }
+}
+
+/// Runs what the words ask for: reads the script from the source, and writes to the sink each frame that leaves a port,
+/// and the line of the refusal, where the script is refused.
+///
+/// Words of no form make it write the usage line, read nothing and answer `Usage`. It answers `Done` where the script's
+/// end line was run, `Refused` where a line was refused, `ReadFault` and `WriteFault` where source or sink failed in this
+/// run, and `NoMemory` where memory ran out. By then it has written the output of what it read, or a front of that.
+pub fn run<S: Source, K: Sink>(
+    alloc: Global,
+    words: &Vec<String>,
+    source: &mut S,
+    sink: &mut K,
+) -> Status
+    ensures ran { Ran (form_of (map string_bytes words.now.items))
+        (record { left = S.left source.old; taken = S.taken source.old; faults = S.faults source.old; ends = S.ends source.old })
+        (record { left = S.left source.new; taken = S.taken source.new; faults = S.faults source.new; ends = S.ends source.new })
+        (record { written = K.written sink.old; faults = K.faults sink.old })
+        (record { written = K.written sink.new; faults = K.faults sink.new }) result }
+    ensures complete { form_of (map string_bytes words.now.items) ≡ Some Form.Replay → Completes
+        (record { left = S.left source.old; taken = S.taken source.old; faults = S.faults source.old; ends = S.ends source.old })
+        (record { left = S.left source.new; taken = S.taken source.new; faults = S.faults source.new; ends = S.ends source.new })
+        (record { written = K.written sink.old; faults = K.faults sink.old })
+        (record { written = K.written sink.new; faults = K.faults sink.new }) result }
+    ensures delivers { DeliversInstalled }
+{
+    match form_of(words.as_slice()) {
+        Some(Form::Replay) => replay(alloc, source, sink),
+        None => usage(sink),
+    }
+}

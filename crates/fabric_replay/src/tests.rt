@@ -1,0 +1,365 @@
+use super::*;
+use std::alloc::Global;
+use std::process::Abort;
+use std::test::Fail;
+use vtep_base::{Bytes, List, MemorySink, MemorySource, OutOfMemory};
+
+const FIRST_BROADCAST: [&[u8]; 2] = [
+    b"fabric 1\ngateway g1 10.0.0.1\nport g1 p1\nport g1 p2\nswitch red 100 source\nbind red g1 p1 0\nbind red g1 p2 0\nsettle\n",
+    b"frame g1 p1 ffffffffffff02000000000188b5\nend\n",
+];
+
+const FIRST_BROADCAST_OUTPUT: &[u8] = b"settled\nout g1 p2 ffffffffffff02000000000188b5\n";
+
+const TAGS: &[u8] =
+    b"fabric 1\ngateway g1 10.0.0.1\nport g1 p1\nport g1 p2\nport g1 p3\nswitch red 100 source\nbind red g1 p1 7\nbind red g1 p2 0\nbind red g1 p3 4095\nsettle\n";
+
+const START: &[u8] =
+    b"fabric 1\ngateway g1 10.0.0.1\nport g1 p1\nswitch red 100 source\nbind red g1 p1 7\n";
+
+const USAGE: &[u8] =
+    b"usage: replay | replay --generate n | inspect | serve name ip address sessions port...\n";
+
+fn texts(alloc: Global, texts: &[&[u8]]) -> Result<List<Bytes>, OutOfMemory> {
+    let mut pieces = List::new(alloc);
+    for text in texts {
+        pieces.push(Bytes::from_slice(alloc, text)?)?;
+    }
+    Ok(pieces)
+}
+
+fn numbers(alloc: Global, numbers: &[u64]) -> Result<List<u64>, OutOfMemory> {
+    let mut list = List::new(alloc);
+    for number in numbers {
+        list.push(*number)?;
+    }
+    Ok(list)
+}
+
+/// The status and the output for words and pieces of input, where these takes and puts fail.
+fn ran(
+    alloc: Global,
+    words: &[&str],
+    pieces: &[&[u8]],
+    takes: &[u64],
+    puts: &[u64],
+) -> Result<(u8, Bytes), OutOfMemory> {
+    let mut list = Vec::new(alloc);
+    for word in words {
+        list.push(String::from_str(alloc, word)?)?;
+    }
+    let mut source = MemorySource::new(texts(alloc, pieces)?, numbers(alloc, takes)?);
+    let mut sink = MemorySink::new(alloc, numbers(alloc, puts)?);
+    let status = run(alloc, &list, &mut source, &mut sink);
+    Ok((status.number(), sink.written))
+}
+
+fn replayed(alloc: Global, script: &[u8]) -> Result<(u8, Bytes), OutOfMemory> {
+    ran(alloc, &["replay"], &[script], &[], &[])
+}
+
+/// A text of so many lines, each of a front and a number.
+fn lines(alloc: Global, front: &[u8], count: u32, back: &[u8]) -> Result<Bytes, OutOfMemory> {
+    let mut text = Bytes::new(alloc);
+    for number in 0..count {
+        let mut digits = itoa::Buffer::new();
+        text.append_all(&[front, digits.format(number).as_bytes(), back])?;
+    }
+    Ok(text)
+}
+
+/// Compares what is refused behind a start of five lines: each line with its column and reason.
+fn refuses(rt: &impl Abort, alloc: Global, cases: &[(&[u8], &[u8])]) -> Result<(), Fail> {
+    for (line, wanted) in cases {
+        let mut script = Bytes::from_slice(alloc, START)?;
+        script.append_all(&[*line, b"\nend\n"])?;
+        let mut output = Bytes::from_slice(alloc, b"refused 6 ")?;
+        output.append_all(&[*wanted, b"\n"])?;
+        let (status, written) = replayed(alloc, script.as_slice())?;
+        assert_eq!(rt; written.as_slice(), output.as_slice());
+        assert_eq!(rt; status, 3);
+    }
+    Ok(())
+}
+
+#[test]
+fn refuses_bytes_and_commands(rt: HostRuntime) -> Result<(), Fail> {
+    let cases: [(&[u8], &[u8]); 11] = [
+        (b"\tsettle", b"1 byte"),
+        (b"settle\x7f", b"7 byte"),
+        (b"settle \x80", b"8 byte"),
+        (b" \x00settle", b"2 byte"),
+        (b"bogus \x1f", b"7 byte"),
+        (b"frame g1 p1 \xc3", b"13 byte"),
+        (b"fabric 1", b"1 command"),
+        (b"settl", b"1 command"),
+        (b"  settles", b"3 command"),
+        (b"Settle", b"1 command"),
+        (b"end-", b"1 command"),
+    ];
+    refuses(&rt, rt.alloc(), &cases)
+}
+
+#[test]
+fn refuses_counts_of_words(rt: HostRuntime) -> Result<(), Fail> {
+    let cases: [(&[u8], &[u8]); 20] = [
+        (b"settle now", b"8 words"),
+        (b" settle  now", b"10 words"),
+        (b"gateway", b"8 words"),
+        (b" gateway  ", b"9 words"),
+        (b"gateway g2", b"11 words"),
+        (b"gateway g2 10.0.0.2 x", b"21 words"),
+        (b"gateway ? ? ?", b"13 words"),
+        (b"port", b"5 words"),
+        (b"port g1", b"8 words"),
+        (b"port g1 p2 p3", b"12 words"),
+        (b"switch blue", b"12 words"),
+        (b"switch blue 5", b"14 words"),
+        (b"switch blue 5 source x", b"22 words"),
+        (b"bind red g1", b"12 words"),
+        (b"bind red g1 p1", b"15 words"),
+        (b"bind red g1 p1 0 0", b"18 words"),
+        (b"frame", b"6 words"),
+        (b"frame g1 p1", b"12 words"),
+        (b"frame g1 p1 - -", b"15 words"),
+        (b"end now", b"5 words"),
+    ];
+    refuses(&rt, rt.alloc(), &cases)
+}
+
+#[test]
+fn refuses_values(rt: HostRuntime) -> Result<(), Fail> {
+    let cases: [(&[u8], &[u8]); 24] = [
+        (b"gateway g/2 10.0.0.2", b"9 value"),
+        (b"gateway g2 10.0.0.256", b"12 value"),
+        (b"gateway g2 -", b"12 value"),
+        (b"gateway g/2 10.0.0.256", b"9 value"),
+        (b"port g/1 p2", b"6 value"),
+        (b"port g1 p#", b"9 value"),
+        (
+            b"port aaaaaaaaaaaaaaaaaaaaaaaaaaaaaaaaaaaaaaaaaaaaaaaaaaaaaaaaaaaaaaaaa p2",
+            b"6 value",
+        ),
+        (b"switch b!ue 5 source", b"8 value"),
+        (b"switch blue 16777216 source", b"13 value"),
+        (b"switch blue 007 source", b"13 value"),
+        (b"switch blue 5 Source", b"15 value"),
+        (b"switch blue -1 sources", b"13 value"),
+        (b"bind r=d g1 p1 0", b"6 value"),
+        (b"bind red g+ p1 0", b"10 value"),
+        (b"bind red g1 p+ 0", b"13 value"),
+        (b"bind red g1 p1 4096", b"16 value"),
+        (b"bind red g1 p1 07", b"16 value"),
+        (b"bind red g1 p1 -", b"16 value"),
+        (b"frame g1 p1 abc", b"13 value"),
+        (b"frame g1 p1 zz", b"13 value"),
+        (b"frame g1 p1 0x00", b"13 value"),
+        (b"frame g1 p1 --", b"13 value"),
+        (b"frame g/1 p1 zz", b"7 value"),
+        (b"frame g1 p2 zz", b"13 value"),
+    ];
+    refuses(&rt, rt.alloc(), &cases)
+}
+
+#[test]
+fn refuses_lines_that_do_not_fit(rt: HostRuntime) -> Result<(), Fail> {
+    let cases: [(&[u8], &[u8]); 19] = [
+        (b"gateway g1 10.0.0.9", b"9 repeated"),
+        (b"gateway g2 10.0.0.1", b"12 repeated"),
+        (b"gateway g1 10.0.0.1", b"9 repeated"),
+        (b"port g2 p1", b"6 unknown"),
+        (
+            b"port aaaaaaaaaaaaaaaaaaaaaaaaaaaaaaaaaaaaaaaaaaaaaaaaaaaaaaaaaaaaaaaa p2",
+            b"6 unknown",
+        ),
+        (b"port g1 p1", b"9 repeated"),
+        (b"switch red 5 source", b"8 repeated"),
+        (b"switch blue 100 source", b"13 repeated"),
+        (b"switch blue 100 service", b"13 repeated"),
+        (b"switch blue 5 service", b"1 use"),
+        (b"  switch blue 5 service", b"3 use"),
+        (b"bind blue g1 p2 0", b"6 unknown"),
+        (b"bind red g2 p1 0", b"10 unknown"),
+        (b"bind blue g2 p1 7", b"6 unknown"),
+        (b"bind red g1 p1 7", b"13 repeated"),
+        (b" bind  red g1  p1 7", b"16 repeated"),
+        (b"frame g2 p1 00", b"7 unknown"),
+        (b"frame - p1 00", b"7 unknown"),
+        (b"frame g1 p2 00", b"10 unknown"),
+    ];
+    refuses(&rt, rt.alloc(), &cases)
+}
+
+#[test]
+fn runs_scripts(rt: HostRuntime) -> Result<(), Fail> {
+    let cases: [(&[u8], u8, &[u8]); 22] = [
+        (b"", 3, b"refused 1 1 first\n"),
+        (b" \n#x\n  # y\n", 3, b"refused 4 1 first\n"),
+        (b"\r\n", 3, b"refused 2 1 first\n"),
+        (b"\r", 3, b"refused 1 1 byte\n"),
+        (b"\0\n", 3, b"refused 1 1 byte\n"),
+        (b"fabric 2\nend\n", 3, b"refused 1 1 first\n"),
+        (b"fabric 1 1\nend\n", 3, b"refused 1 1 first\n"),
+        (b" settle\nfabric 1\n", 3, b"refused 1 1 first\n"),
+        (b"fabric 1\n", 3, b"refused 2 1 end\n"),
+        (b"fabric 1", 3, b"refused 2 1 end\n"),
+        (b"fabric 1\nend", 0, b""),
+        (b"fabric 1\nend\nend\n", 0, b""),
+        (b"fabric 1\nend\n\xff\n", 0, b""),
+        (b"  fabric   1  \r\nsettle\r\nend\r\n", 0, b"settled\n"),
+        (b"fabric 1\n\r\r\nend\n", 3, b"refused 2 1 byte\n"),
+        (b"fabric 1\nend\r", 3, b"refused 2 4 byte\n"),
+        (
+            b"#\x01\nfabric 1\n#\n\n  #\nsettle\n",
+            3,
+            b"settled\nrefused 7 1 end\n",
+        ),
+        (
+            b"fabric 1\nsettle\nsettle now",
+            3,
+            b"settled\nrefused 3 8 words\n",
+        ),
+        (
+            b"fabric 1\ngateway g1 10.0.0.1\nport g1 p1\nframe g1 p1 -\nend\n",
+            0,
+            b"drop g1 frame Short 0\n",
+        ),
+        (
+            b"fabric 1\ngateway g1 10.0.0.1\nport g1 p1\nframe g1 p1 FFFFFFFFFFFF02000000000188B5\nend\n",
+            0,
+            b"drop g1 unbound\n",
+        ),
+        (
+            b"fabric 1\ngateway g1 10.0.0.1\nport g1 p1\nswitch red 1 source\nbind red g1 p1 0\nsettle\nframe g1 p1 02000000000102000000000188b5\nend\n",
+            0,
+            b"settled\n",
+        ),
+        (
+            b"fabric 1\ngateway g1 10.0.0.1\nport g1 p1\nswitch red 1 source\nbind red g1 p1 0\nframe g1 p1 ffffffffffff02000000000188b5\nend\n",
+            0,
+            b"drop g1 unbound\n",
+        ),
+    ];
+    for (script, wanted_status, wanted) in &cases {
+        let (status, written) = replayed(rt.alloc(), script)?;
+        assert_eq!(rt; written.as_slice(), *wanted);
+        assert_eq!(rt; status, *wanted_status);
+    }
+    Ok(())
+}
+
+#[test]
+fn reaches_limits(rt: HostRuntime) -> Result<(), Fail> {
+    let alloc = rt.alloc();
+    let mut ports = Bytes::from_slice(alloc, b"fabric 1\ngateway g1 10.0.0.1\n")?;
+    ports.append(lines(alloc, b"port g1 p", 65, b"\n")?.as_slice())?;
+    let (status, written) = replayed(alloc, ports.as_slice())?;
+    assert_eq!(rt; written.as_slice(), b"refused 67 1 limit\n".as_slice());
+    assert_eq!(rt; status, 3);
+    let mut long = Bytes::from_slice(alloc, b"fabric 1\n")?;
+    for _ in 0..300000 {
+        long.push(b'x')?;
+    }
+    let (status, written) = replayed(alloc, long.as_slice())?;
+    assert_eq!(rt; written.as_slice(), b"refused 2 1 command\n".as_slice());
+    assert_eq!(rt; status, 3);
+    Ok(())
+}
+
+#[test]
+fn floods_one_frame(rt: HostRuntime) -> Result<(), Fail> {
+    let (status, written) = ran(rt.alloc(), &["replay"], &FIRST_BROADCAST, &[], &[])?;
+    assert_eq!(rt; written.as_slice(), FIRST_BROADCAST_OUTPUT);
+    assert_eq!(rt; status, 0);
+    Ok(())
+}
+
+#[test]
+fn tags(rt: HostRuntime) -> Result<(), Fail> {
+    let cases: [(&[u8], &[u8]); 4] = [
+        (
+            b"ffffffffffff0200000000018100000788b5aa",
+            b"settled\nout g1 p2 ffffffffffff02000000000188b5aa\nout g1 p3 ffffffffffff02000000000181000fff88b5aa\n",
+        ),
+        (
+            b"ffffffffffff02000000000188b5",
+            b"settled\nout g1 p1 ffffffffffff0200000000018100000788b5\nout g1 p3 ffffffffffff02000000000181000fff88b5\n",
+        ),
+        (
+            b"ffffffffffff020000000001",
+            b"settled\ndrop g1 frame Short 12\n",
+        ),
+        (
+            b"ffffffffffff020000000001810000078100",
+            b"settled\ndrop g1 frame SecondTag 16\n",
+        ),
+    ];
+    for (frame, wanted) in &cases {
+        let port: &[u8] = if wanted.len() > 100 && frame.len() < 30 {
+            b"p2 "
+        } else {
+            b"p1 "
+        };
+        let pieces = [
+            TAGS,
+            b"frame g1 ".as_slice(),
+            port,
+            *frame,
+            b"\nend\n".as_slice(),
+        ];
+        let (status, written) = ran(rt.alloc(), &["replay"], &pieces, &[], &[])?;
+        assert_eq!(rt; written.as_slice(), *wanted);
+        assert_eq!(rt; status, 0);
+    }
+    Ok(())
+}
+
+/// A script in two pieces, wherever it is cut.
+#[test]
+fn cuts_do_not_matter(rt: HostRuntime) -> Result<(), Fail> {
+    let script: &[u8] =
+        b"fabric 1\r\ngateway g1 10.0.0.1\n\nport g1 p1\nsettle\nframe g1 p1 00\nend\n";
+    for at in 0..script.len() {
+        let (front, back) = script.split_at(at);
+        let (status, written) = ran(rt.alloc(), &["replay"], &[front, back], &[], &[])?;
+        assert_eq!(rt;
+            written.as_slice(),
+            b"settled\ndrop g1 frame Short 1\n".as_slice()
+        );
+        assert_eq!(rt; status, 0);
+    }
+    Ok(())
+}
+
+/// Sources and sinks that fail at one take or put.
+#[test]
+fn faults(rt: HostRuntime) -> Result<(), Fail> {
+    let cases: [(&[u64], &[u64], u8, &[u8]); 6] = [
+        (&[0], &[], 4, b""),
+        (&[1], &[], 4, b"settled\n"),
+        (&[2], &[], 0, FIRST_BROADCAST_OUTPUT),
+        (&[], &[0], 5, b""),
+        (&[], &[1], 5, b"settled\n"),
+        (&[], &[2], 0, FIRST_BROADCAST_OUTPUT),
+    ];
+    for (takes, puts, wanted_status, wanted) in &cases {
+        let (status, written) = ran(rt.alloc(), &["replay"], &FIRST_BROADCAST, takes, puts)?;
+        assert_eq!(rt; written.as_slice(), *wanted);
+        assert_eq!(rt; status, *wanted_status);
+    }
+    Ok(())
+}
+
+#[test]
+fn needs_words(rt: HostRuntime) -> Result<(), Fail> {
+    let cases: [&[&str]; 4] = [&[], &["replay", "x"], &["Replay"], &[""]];
+    for words in &cases {
+        let (status, written) = ran(rt.alloc(), words, &FIRST_BROADCAST, &[], &[])?;
+        assert_eq!(rt; written.as_slice(), USAGE);
+        assert_eq!(rt; status, 2);
+        let (status, written) = ran(rt.alloc(), words, &FIRST_BROADCAST, &[], &[0])?;
+        assert_eq!(rt; written.as_slice(), b"".as_slice());
+        assert_eq!(rt; status, 5);
+    }
+    Ok(())
+}

@@ -1,0 +1,166 @@
+-- The lines of a script as data, and how a line is read.
+use Rattle.std.specs.Prelude.{ℕ, ◌+◌, ◌==◌, Bool, nat_lt, nat_eq, if◌then◌else◌, List, [], ◌∷◌, length, Option, Some, None, slice_get, codes, Result, Ok, Err}
+use Rattle.std.specs.Result.{result_ok}
+use Rattle.std.specs.Cmp.Lexicographic.{pointwise}
+use Rattle.hex.specs.Hex.{decode_of}
+use Rattle.vtep_base.specs.Reading.{Bytes}
+use Rattle.vtep_base.specs.Texts.{name_of, ipv4_of, vni_of, vlan_of}
+use Rattle.vtep_base.specs.declared.answers.Mode.{Mode}
+use Rattle.vtep_base.specs.declared.answers.Mode.TheVariants.{Source, Service}
+use Rattle.vtep_base.specs.declared.answers.LineReason.{LineReason}
+use Rattle.vtep_base.specs.declared.answers.LineReason.TheVariants as reason
+use Rattle.fabric_world.specs.declared.Refusal.{Refusal}
+use Rattle.fabric_world.specs.declared.Kind.{Kind}
+use Rattle.fabric_world.specs.declared.Kind.TheVariants as kind
+use Rattle.fabric_world.specs.declared.Line.TheVariants.{Gateway, Port, Switch, Bind, Settle, Frame}
+use Rattle.fabric_world.specs.declared.Instruction.{Instruction}
+use Rattle.fabric_world.specs.declared.Instruction.TheVariants.{Do, End}
+use Rattle.fabric_world.specs.Text.{Word, words, bad_byte}
+
+abbrev pub same_bytes : Bytes → Bytes → Bool
+same_bytes = pointwise nat_eq
+
+abbrev pub refuse : {A : Type 0} → ℕ → LineReason → Result A Refusal
+refuse column why = Err (record { column = column; reason = why })
+
+infixl 10 ◌>>=◌
+abbrev pub ◌>>=◌ : {A B : Type 0} → Result A Refusal → (A → Result B Refusal) → Result B Refusal
+(Ok a) >>= f = f a
+(Err e) >>= f = Err e
+
+-- ---- what lines say
+
+abbrev pub is_word : Bytes → Bytes → Bool
+is_word a b = same_bytes a b
+
+-- the first word of a kind
+abbrev pub kind_text : Kind → Bytes
+kind_text kind.Gateway = codes "gateway"
+kind_text kind.Port = codes "port"
+kind_text kind.Switch = codes "switch"
+kind_text kind.Bind = codes "bind"
+kind_text kind.Settle = codes "settle"
+kind_text kind.Frame = codes "frame"
+kind_text kind.End = codes "end"
+
+abbrev pub kinds : List Kind
+kinds = kind.Gateway ∷ kind.Port ∷ kind.Switch ∷ kind.Bind ∷ kind.Settle ∷ kind.Frame ∷ kind.End ∷ []
+
+-- the first of the kinds that has this word
+abbrev pub kind_among : Bytes → List Kind → Option Kind
+kind_among word [] = None
+kind_among word (k ∷ ks) = if is_word word (kind_text k) then Some k else kind_among word ks
+
+abbrev pub kind_of : Bytes → Option Kind
+kind_of word = kind_among word kinds
+
+-- how many words follow the first
+abbrev pub arity : Kind → ℕ
+arity kind.Gateway = 2
+arity kind.Port = 2
+arity kind.Switch = 3
+arity kind.Bind = 4
+arity kind.Settle = 0
+arity kind.Frame = 3
+arity kind.End = 0
+
+-- ---- the forms of words
+
+abbrev pub mode_of : Bytes → Option Mode
+mode_of word = if is_word word (codes "source") then Some Source else if is_word word (codes "service") then Some Service else None
+
+-- `-` is no bytes
+abbrev pub hex_of : Bytes → Option Bytes
+hex_of word = if is_word word (codes "-") then Some [] else if length word == 0 then None else result_ok (decode_of word)
+
+abbrev pub value_at : {A : Type 0} → ℕ → Option A → Result A Refusal
+value_at column None = refuse column reason.Value
+value_at column (Some a) = Ok a
+
+-- the value of the word at a place, by its form
+abbrev pub by_word : {A : Type 0} → (Bytes → Option A) → Option Word → Result A Refusal
+by_word form None = refuse 1 reason.Words
+by_word form (Some w) = value_at w.column (form w.bytes)
+
+abbrev pub word_at : {A : Type 0} → (Bytes → Option A) → List Word → ℕ → Result A Refusal
+word_at form ws place = by_word form (slice_get ws place)
+
+-- one clause for each kind: the forms of its words, in order
+abbrev pub instruction : Kind → List Word → Result Instruction Refusal
+instruction kind.Gateway ws = do
+  g ← word_at name_of ws 1
+  ip ← word_at ipv4_of ws 2
+  Ok (Do (Gateway g ip))
+instruction kind.Port ws = do
+  g ← word_at name_of ws 1
+  p ← word_at name_of ws 2
+  Ok (Do (Port g p))
+instruction kind.Switch ws = do
+  s ← word_at name_of ws 1
+  vni ← word_at vni_of ws 2
+  mode ← word_at mode_of ws 3
+  Ok (Do (Switch s (record { vni = vni; mode = mode })))
+instruction kind.Bind ws = do
+  s ← word_at name_of ws 1
+  g ← word_at name_of ws 2
+  p ← word_at name_of ws 3
+  v ← word_at vlan_of ws 4
+  Ok (Do (Bind s (record { gateway = g; port = p; vlan = v })))
+instruction kind.Settle ws = Ok (Do Settle)
+instruction kind.Frame ws = do
+  g ← word_at name_of ws 1
+  p ← word_at name_of ws 2
+  bytes ← word_at hex_of ws 3
+  Ok (Do (Frame g p bytes))
+instruction kind.End ws = Ok End
+
+-- ---- a line
+
+abbrev pub end_of : Word → ℕ
+end_of w = w.column + length w.bytes
+
+-- one past the last byte of the last word, or the column that is given
+abbrev pub end_behind : ℕ → List Word → ℕ
+end_behind column [] = column
+end_behind column (w ∷ ws) = end_behind (end_of w) ws
+
+abbrev pub last_end : List Word → ℕ
+last_end ws = end_behind 1 ws
+
+abbrev pub column_of : Option Word → ℕ
+column_of None = 1
+column_of (Some w) = w.column
+
+-- the column of the word at a place
+abbrev pub column_at : List Word → ℕ → ℕ
+column_at ws place = column_of (slice_get ws place)
+
+-- no word is surplus, and none is missing
+abbrev pub counted : Kind → List Word → Result Kind Refusal
+counted k ws =
+    if nat_lt (arity k + 1) (length ws) then refuse (column_at ws (arity k + 1)) reason.Words
+    else if nat_lt (length ws) (arity k + 1) then refuse (last_end ws) reason.Words
+    else Ok k
+
+abbrev pub known_kind : List Word → Option Kind → Result Kind Refusal
+known_kind ws None = refuse (column_at ws 0) reason.Command
+known_kind ws (Some k) = Ok k
+
+abbrev pub first_word : List Word → Bytes
+first_word [] = []
+first_word (w ∷ ws) = w.bytes
+
+abbrev pub read_words : List Word → Result Instruction Refusal
+read_words ws = do
+  k ← known_kind ws (kind_of (first_word ws))
+  checked ← counted k ws
+  instruction checked ws
+
+abbrev pub printable : Option ℕ → Bytes → Result Bytes Refusal
+printable None line = Ok line
+printable (Some column) line = refuse column reason.Byte
+
+abbrev pub read_line : Bytes → Result Instruction Refusal
+read_line line = do
+  text ← printable (bad_byte line) line
+  read_words (words text)

@@ -1,0 +1,203 @@
+-- The state of a fabric, why a line is refused in it, and what a line does.
+use Rattle.std.specs.Prelude.{ℕ, Bool, true, false, not, ◌&&◌, ◌==◌, nat_le, if◌then◌else◌, List, [], ◌∷◌, ◌++◌, map, filter, find, length, Option, Some, None, codes, decimal, Result, Ok, Err, take, drop}
+use Rattle.std.specs.List.{list_any, flat_map}
+use Rattle.std.specs.Ordering.{nat_cmp, ordering_then}
+use Rattle.std.specs.Cmp.Lexicographic.{slice_cmp}
+use Rattle.std.specs.declared.cmp.Ordering.{Ordering}
+use Rattle.hex.specs.Hex.{encode_lower}
+use Rattle.vtep_base.specs.Reading.{Bytes}
+use Rattle.vtep_base.specs.Maps as maps
+use Rattle.vtep_base.specs.Memory.{joined}
+use Rattle.vtep_base.specs.Maps.{Map}
+use Rattle.vtep_base.specs.declared.answers.Mode.{Mode}
+use Rattle.vtep_base.specs.declared.answers.Mode.TheVariants.{Source, Service}
+use Rattle.vtep_base.specs.declared.bindings.Binding.{Binding}
+use Rattle.ether_frames.specs.Frames.{frame_of, tagged}
+use Rattle.ether_frames.specs.declared.FrameFault.{FrameFault}
+use Rattle.ether_frames.specs.declared.FrameKind.{FrameKind}
+use Rattle.ether_frames.specs.declared.FrameKind.TheVariants as frame_kind
+use Rattle.fabric_world.specs.declared.Network.{Network}
+use Rattle.fabric_world.specs.declared.Line.{Line}
+use Rattle.fabric_world.specs.declared.Line.TheVariants.{Gateway, Port, Switch, Bind, Settle, Frame}
+use Rattle.fabric_world.specs.declared.Fault.{Fault}
+use Rattle.fabric_world.specs.declared.Fault.TheVariants.{Unknown, Repeated, Limit, Use}
+use Rattle.fabric_world.specs.Lines.{same_bytes}
+
+-- ---- the state
+
+abbrev pub bytes_cmp : Bytes → Bytes → Ordering
+bytes_cmp = slice_cmp nat_cmp
+
+-- by gateway, port and VLAN
+abbrev pub binding_cmp : Binding → Binding → Ordering
+binding_cmp a b = ordering_then (bytes_cmp a.gateway b.gateway) (ordering_then (bytes_cmp a.port b.port) (nat_cmp a.vlan b.vlan))
+
+-- a gateway: its address, its ports, and the bindings that are installed, each with its switch's name
+pub record Site : Type 0 where
+  pub ip : ℕ
+  pub ports : List Bytes
+  pub installed : List (Binding × Bytes)
+
+-- what the operator wants: the switches by name, and the bindings with their switches' names
+pub record Intent : Type 0 where
+  pub switches : Map bytes_cmp Network
+  pub bindings : Map binding_cmp Bytes
+
+-- how many gateways, ports of a gateway and switches there may be
+pub record Limits : Type 0 where
+  pub gateways : ℕ
+  pub ports : ℕ
+  pub switches : ℕ
+
+pub record World : Type 0 where
+  pub limits : Limits
+  pub sites : Map bytes_cmp Site
+  pub intent : Intent
+
+abbrev pub start : World
+start = record {
+  limits = record { gateways = 1; ports = 64; switches = 1024 };
+  sites = maps.empty;
+  intent = record { switches = maps.empty; bindings = maps.empty };
+}
+
+-- ---- why a line is refused: the reason, and the place of its word where it has one
+
+-- the first that holds
+abbrev pub first_of : List (Bool × Fault) → Option Fault
+first_of [] = None
+first_of (f ∷ fs) = if f.0 then Some f.1 else first_of fs
+
+abbrev pub has_ip : ℕ → Bytes × Site → Bool
+has_ip ip e = e.1.ip == ip
+
+abbrev pub has_vni : ℕ → Bytes × Network → Bool
+has_vni vni e = e.1.vni == vni
+
+abbrev pub has_port : Bytes → Option Site → Bool
+has_port p None = false
+has_port p (Some site) = list_any (λ q. same_bytes q p) site.ports
+
+abbrev pub port_count : Option Site → ℕ
+port_count None = 0
+port_count (Some site) = length site.ports
+
+abbrev pub is_service : Mode → Bool
+is_service Source = false
+is_service Service = true
+
+abbrev pub fault : World → Line → Option Fault
+fault w (Gateway g ip) = first_of (
+    (maps.has w.sites g, Repeated 1)
+    ∷ (list_any (has_ip ip) w.sites.list, Repeated 2)
+    ∷ (nat_le w.limits.gateways (maps.size w.sites), Limit) ∷ [])
+fault w (Port g p) = first_of (
+    (not (maps.has w.sites g), Unknown 1)
+    ∷ (has_port p (maps.get w.sites g), Repeated 2)
+    ∷ (nat_le w.limits.ports (port_count (maps.get w.sites g)), Limit) ∷ [])
+fault w (Switch s n) = first_of (
+    (maps.has w.intent.switches s, Repeated 1)
+    ∷ (list_any (has_vni n.vni) w.intent.switches.list, Repeated 2)
+    ∷ (nat_le w.limits.switches (maps.size w.intent.switches), Limit)
+    ∷ (is_service n.mode, Use) ∷ [])
+fault w (Bind s b) = first_of (
+    (not (maps.has w.intent.switches s), Unknown 1)
+    ∷ (not (maps.has w.sites b.gateway), Unknown 2)
+    ∷ (maps.has w.intent.bindings b, Repeated 3) ∷ [])
+fault w Settle = None
+fault w (Frame g p bytes) = first_of (
+    (not (maps.has w.sites g), Unknown 1)
+    ∷ (not (has_port p (maps.get w.sites g)), Unknown 2) ∷ [])
+
+-- ---- what a line does
+
+-- why a frame goes nowhere
+pub data Reason : Type 0 where
+  No_frame : FrameFault → Reason
+  Unbound : Reason
+
+pub data Output : Type 0 where
+  Settled : Output
+  Out : Bytes → Bytes → Bytes → Output  -- the gateway, the port and the bytes
+  Drop : Bytes → Reason → Output  -- the gateway
+
+abbrev pub at_site : (Site → Site) → World → Bytes → Option Site → World
+at_site change w g None = w
+at_site change w g (Some site) = record w { sites = maps.insert w.sites g (change site) }
+
+-- a gateway changes
+abbrev pub at_gateway : World → Bytes → (Site → Site) → World
+at_gateway w g change = at_site change w g (maps.get w.sites g)
+
+-- the bindings of the intent on ports that the gateway has
+abbrev pub wanted : Intent → Bytes → Site → List (Binding × Bytes)
+wanted intent g site = filter (λ e. same_bytes g e.0.gateway && list_any (λ q. same_bytes q e.0.port) site.ports) intent.bindings.list
+
+abbrev pub installed_each : Intent → List (Bytes × Site) → Map bytes_cmp Site
+installed_each intent [] = maps.empty
+installed_each intent (e ∷ es) = maps.insert (installed_each intent es) e.0 (record e.1 { installed = wanted intent e.0 e.1 })
+
+abbrev pub is_at_place : Bytes → ℕ → Binding × Bytes → Bool
+is_at_place p v e = same_bytes e.0.port p && (e.0.vlan == v)
+
+-- an installed binding of the switch other than the entering one
+abbrev pub is_other_member : Bytes → Bytes → ℕ → Binding × Bytes → Bool
+is_other_member s p v e = same_bytes e.1 s && not (is_at_place p v e)
+
+-- the frame leaves at a binding in its written form
+abbrev pub leaves : Bytes → Bytes → Binding × Bytes → Output
+leaves g inner e = Out g e.0.port (tagged e.0.vlan inner)
+
+-- the destination is the source
+abbrev pub to_itself : Bytes → Bool
+to_itself inner = same_bytes (take 6 inner) (take 6 (drop 6 inner))
+
+-- a frame floods the switch of the binding where it enters
+abbrev pub flooded : Bytes → Site → Bytes → ℕ → Bytes → Option (Binding × Bytes) → List Output
+flooded g site p v inner None = Drop g Unbound ∷ []
+flooded g site p v inner (Some e) = if to_itself inner then [] else map (leaves g inner) (filter (is_other_member e.1 p v) site.installed)
+
+abbrev pub entered : Bytes → Site → Bytes → Result (ℕ × Bytes) FrameFault → List Output
+entered g site p (Err why) = Drop g (No_frame why) ∷ []
+entered g site p (Ok f) = flooded g site p f.0 f.1 (find (is_at_place p f.0) site.installed)
+
+abbrev pub frame_outputs : Bytes → Bytes → Bytes → Option Site → List Output
+frame_outputs g p bytes None = []
+frame_outputs g p bytes (Some site) = entered g site p (frame_of bytes)
+
+abbrev pub step : World → Line → World
+step w (Gateway g ip) = record w { sites = maps.insert w.sites g (record { ip = ip; ports = []; installed = [] }) }
+step w (Port g p) = at_gateway w g (λ site. record site { ports = site.ports ++ p ∷ [] })
+step w (Switch s n) = record w { intent = record w.intent { switches = maps.insert w.intent.switches s n } }
+step w (Bind s b) = record w { intent = record w.intent { bindings = maps.insert w.intent.bindings b s } }
+step w Settle = record w { sites = installed_each w.intent w.sites.list }
+step w (Frame g p bytes) = w
+
+abbrev pub outputs : World → Line → List Output
+outputs w Settle = Settled ∷ []
+outputs w (Frame g p bytes) = frame_outputs g p bytes (maps.get w.sites g)
+outputs w _ = []
+
+-- ---- the output as text
+
+-- no bytes are written as a dash
+abbrev pub hex_word : Bytes → Bytes
+hex_word [] = codes "-"
+hex_word (b ∷ bs) = encode_lower (b ∷ bs)
+
+abbrev pub frame_kind_text : FrameKind → Bytes
+frame_kind_text frame_kind.Short = codes "Short"
+frame_kind_text frame_kind.SecondTag = codes "SecondTag"
+frame_kind_text frame_kind.Long = codes "Long"
+
+abbrev pub reason_words : Reason → List Bytes
+reason_words (No_frame why) = codes " frame " ∷ frame_kind_text why.kind ∷ codes " " ∷ decimal why.offset ∷ codes "\n" ∷ []
+reason_words Unbound = codes " unbound\n" ∷ []
+
+abbrev pub output_text : Output → Bytes
+output_text Settled = codes "settled\n"
+output_text (Out g p bytes) = joined (codes "out " ∷ g ∷ codes " " ∷ p ∷ codes " " ∷ hex_word bytes ∷ codes "\n" ∷ [])
+output_text (Drop g why) = joined (codes "drop " ∷ g ∷ reason_words why)
+
+abbrev pub outputs_text : List Output → Bytes
+outputs_text os = flat_map output_text os
