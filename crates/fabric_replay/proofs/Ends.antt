@@ -8,24 +8,30 @@ use Rattle.vtep_base.specs.declared.answers.LineReason.{LineReason}
 use Rattle.vtep_base.specs.declared.answers.LineReason.TheVariants as reason
 use Rattle.vtep_base.proofs.Told.{grows-none, shrinks-none}
 use Rattle.fabric_world.specs.declared.Form.{Form}
-use Rattle.fabric_world.specs.Script.{Stage, Waiting, Going, Over, Stopped, Played, closed, Reading, Short, IsGoing, Answers, AnswersUsage, Ran}
+use Rattle.fabric_world.specs.Script.{Stage, Waiting, Going, Over, Stopped, Inspecting, Played, ended, full, Reading, Short, IsGoing, Answers, AnswersUsage, Ran}
 use Rattle.fabric_replay.specs.Outcomes.{Wrote, WroteUsage}
 
 -- ---- the end of a script
 
-pub same_close : (p : Played) (mid new : Stage) → mid ≡ p.stage
-    → closed reason.First reason.End (record { text = p.text; stage = mid }) ≡ record { text = p.text; stage = new }
-    → (closed reason.First reason.End p).stage ≡ new
-same_close p mid new e h = ap (λ s. (closed reason.First reason.End (record { text = p.text; stage = s })).stage) (sym e) ∙ ap (λ q. q.stage) h
+pub same_end : (p : Played) (mid new : Stage) → mid ≡ p.stage → ended (record { text = p.text; stage = mid }) ≡ record { text = p.text; stage = new } → (ended p).stage ≡ new
+same_end p mid new e h = ap (λ s. (ended (record { text = p.text; stage = s })).stage) (sym e) ∙ ap (λ q. q.stage) h
 
-pub closed_ends : (a b : LineReason) (p : Played) → IsGoing (closed a b p).stage → ⊥
-closed_ends a b p = by p.stage
+pub ended_ends : (p : Played) → IsGoing (ended p).stage → ⊥
+ended_ends p = by p.stage
   where
-    by : (s : Stage) → IsGoing (closed a b (record { text = p.text; stage = s })).stage → ⊥
+    by : (s : Stage) → IsGoing (ended (record { text = p.text; stage = s })).stage → ⊥
     by (Waiting n) k = k
     by (Going n w) k = k
     by Over k = k
     by (Stopped n why) k = k
+    by (Inspecting n) k = k
+
+pub full_ends : (s : Stage) → IsGoing (full s).stage → ⊥
+full_ends (Waiting n) k = k
+full_ends (Going n w) k = k
+full_ends Over k = k
+full_ends (Stopped n why) k = k
+full_ends (Inspecting n) k = k
 
 -- a script that has ended has its answer however the reading ended
 pub ended_answers : (p : Played) (how : Reading) (o : Bytes) (st : Status) → (IsGoing p.stage → ⊥) → Answers p Short o st → Answers p how o st

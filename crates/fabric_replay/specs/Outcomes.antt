@@ -5,7 +5,7 @@ use Rattle.vtep_base.specs.Outside.{SourceState, SinkState, Grows, Shrinks, Rose
 use Rattle.vtep_base.specs.declared.answers.Status.{Status}
 use Rattle.vtep_base.specs.declared.answers.Status.TheVariants as status
 use Rattle.fabric_world.specs.Text.{cut}
-use Rattle.fabric_world.specs.Script.{Stage, Waiting, Going, Over, Stopped, Played, played, Reading, Short, IsPrefix, IsGoing, Answers, AnswersUsage, most_bytes}
+use Rattle.fabric_world.specs.Script.{Stage, Waiting, Going, Over, Stopped, Inspecting, Played, played, Reading, Short, IsPrefix, IsGoing, Answers, AnswersUsage, most_bytes}
 
 -- all bytes were written, or a front of them before the sink failed
 pub record PutsFront (old new : SinkState) (bytes : Bytes) : Type 0 where
@@ -29,6 +29,7 @@ status_at (Waiting n) = None
 status_at (Going n w) = None
 status_at Over = Some status.Done
 status_at (Stopped n why) = Some status.Refused
+status_at (Inspecting n) = None
 
 -- a part that ends the run, and reads nothing
 pub record Wrote (p : Played) (how : Reading) (old new : SinkState) (answer : Status) : Type 0 where
@@ -50,13 +51,13 @@ Continues p old new None = GoesOn p old new
 Continues p old new (Some answer) = Wrote p Short old new answer
 
 -- what a run took and wrote up to the end of a piece, where the script goes on
-pub record SoFar (source now : SourceState) (sink after : SinkState) (stage : Stage) (front : Bytes) (number left : ℕ) : Type 0 where
+pub record SoFar (first : Stage) (source now : SourceState) (sink after : SinkState) (stage : Stage) (front : Bytes) (number left : ℕ) : Type 0 where
   pub text : Bytes
   pub took : Grows source.taken text now.taken
   pub told : Shrinks source.left text now.left
-  pub wrote : Grows sink.written (played text).text after.written
-  pub going : IsGoing (played text).stage
-  pub stage_so : stage ≡ (played text).stage
+  pub wrote : Grows sink.written (played first text).text after.written
+  pub going : IsGoing (played first text).stage
+  pub stage_so : stage ≡ (played first text).stage
   pub front_so : front ≡ (cut [] text).1
   pub room : length text + left ≡ most_bytes
   pub counted : number ≤ length text + 1

@@ -5,7 +5,7 @@ use Rattle.vtep_base.specs.Maps as maps
 use Rattle.vtep_base.specs.Maps.{Map}
 use Rattle.std.specs.List.{list_any}
 use Rattle.vtep_base.specs.declared.bindings.Binding.{Binding}
-use Rattle.fabric_world.specs.Lines.{same_bytes}
+use Rattle.vtep_base.specs.Reading.{same_bytes}
 use Rattle.fabric_world.specs.declared.Line.{Line}
 use Rattle.fabric_world.specs.declared.Fault.{Fault}
 use Rattle.fabric_world.specs.World.{World, Site, bytes_cmp, fault, step, outputs, outputs_text}

@@ -2,7 +2,7 @@
 use Rattle.std.specs.Prelude.{◌≡◌, ℕ, ◌+◌, ◌<◌, ◌∷◌, ◌++◌, length, take, drop}
 use Rattle.vtep_base.specs.Reading.{Bytes}
 use Rattle.fabric_world.specs.World.{World}
-use Rattle.fabric_world.specs.Script.{Stage, Waiting, Going, Over, Stopped, play_one, play}
+use Rattle.fabric_world.specs.Script.{Stage, Waiting, Going, Over, Stopped, Inspecting, play_one, play}
 use Rattle.fabric_world.specs.Text.{cut, NoFeed}
 use Rattle.fabric_replay.specs.PlainWorld.{world_of}
 use Rattle.fabric_replay.specs.declared.script.Place.{Place}
@@ -14,6 +14,7 @@ stage_by n w place.Waiting = Waiting n
 stage_by n w place.Going = Going n w
 stage_by n w place.Over = Over
 stage_by n w (place.Stopped why) = Stopped n why
+stage_by n w place.Inspecting = Inspecting n
 
 abbrev pub stage_of : State → Stage
 stage_of s = stage_by s.number (world_of s.world) s.place

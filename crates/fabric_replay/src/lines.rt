@@ -2,7 +2,7 @@
 
 ghost use Rattle.std.specs.Prelude.{◌≡◌, ◌≤◌, ◌<◌, map, Ok, Err, None, Some, MatchResult, IfOk, length, slice_get};
 ghost use Rattle.vtep_base.specs.Texts.{name_of, ipv4_of, vni_of, vlan_of};
-ghost use Rattle.fabric_world.specs.Lines.{kind_of, kind_text, arity, mode_of, hex_of, word_at, column_at, last_end, counted, instruction, read_words, read_line, first_word, known_kind};
+ghost use Rattle.fabric_world.specs.Lines.{kind_of, kind_text, arity, mode_of, hex_of, value_at, word_at, column_at, last_end, counted, instruction, read_words, read_line, first_word, known_kind, only_word, read_packet};
 ghost use Rattle.fabric_world.specs.Text as text;
 ghost use Rattle.fabric_replay.specs.Seen.{seen, Reads, AllFit};
 
@@ -48,13 +48,14 @@ fn refusal(column: usize, reason: LineReason) -> Refusal
 }
 
 /// All kinds of lines.
-const KINDS: [Kind; 7] = [
+const KINDS: [Kind; 8] = [
     Kind::Gateway,
     Kind::Port,
     Kind::Switch,
     Kind::Bind,
     Kind::Settle,
     Kind::Frame,
+    Kind::Underlay,
     Kind::End,
 ];
 
@@ -69,6 +70,7 @@ fn kind_text(kind: Kind) -> &'static [u8]
         Kind::Bind => b"bind",
         Kind::Settle => b"settle",
         Kind::Frame => b"frame",
+        Kind::Underlay => b"underlay",
         Kind::End => b"end",
     }
 }
@@ -91,7 +93,7 @@ fn arity(kind: Kind) -> usize
     ensures few { result ≤ 8 }
 {
     match kind {
-        Kind::Gateway | Kind::Port => 2,
+        Kind::Gateway | Kind::Port | Kind::Underlay => 2,
         Kind::Switch | Kind::Frame => 3,
         Kind::Bind => 4,
         Kind::Settle | Kind::End => 0,
@@ -158,22 +160,28 @@ fn mode_at(words: &[Word<'_>], place: usize) -> Result<Mode, Refusal>
     }
 }
 
-/// The bytes that a hexadecimal word stands for; `-` is no bytes.
+/// The bytes that a hexadecimal word at a column stands for; `-` is no bytes.
+fn hex_value(alloc: Global, column: usize, word: &[u8]) -> Result<Bytes, LineFault>
+    ensures { Reads result (value_at column (hex_of word.now)) }
+{
+    if word == b"-".as_slice() {
+        return Ok(Bytes::new(alloc));
+    }
+    if word.is_empty() {
+        return Err(refusal(column, LineReason::Value).into());
+    }
+    match hex::decode(alloc, word) {
+        Ok(bytes) => Ok(Bytes::from_vec(bytes)),
+        Err(FromHexError::OutOfMemory) => Err(LineFault::OutOfMemory),
+        Err(_) => Err(refusal(column, LineReason::Value).into()),
+    }
+}
+
 fn hex_at(alloc: Global, words: &[Word<'_>], place: usize) -> Result<Bytes, LineFault>
     ensures { Reads result (word_at hex_of (map seen words.now) place) }
 {
     let word = word(words, place)?;
-    if word.bytes == b"-".as_slice() {
-        return Ok(Bytes::new(alloc));
-    }
-    if word.bytes.is_empty() {
-        return Err(refusal(word.column, LineReason::Value).into());
-    }
-    match hex::decode(alloc, word.bytes) {
-        Ok(bytes) => Ok(Bytes::from_vec(bytes)),
-        Err(FromHexError::OutOfMemory) => Err(LineFault::OutOfMemory),
-        Err(_) => Err(refusal(word.column, LineReason::Value).into()),
-    }
+    hex_value(alloc, word.column, word.bytes)
 }
 
 /// One past the last byte of the last word.
@@ -214,6 +222,7 @@ fn instruction(alloc: Global, kind: Kind, words: &[Word<'_>]) -> Result<Instruct
         Kind::Bind => bind(words),
         Kind::Settle => Ok(Instruction::Do(Line::Settle)),
         Kind::Frame => frame(alloc, words),
+        Kind::Underlay => underlay(alloc, words),
         Kind::End => Ok(Instruction::End),
     }
 }
@@ -274,6 +283,14 @@ fn frame(alloc: Global, words: &[Word<'_>]) -> Result<Instruction, LineFault>
     }))
 }
 
+fn underlay(alloc: Global, words: &[Word<'_>]) -> Result<Instruction, LineFault>
+    ensures { Reads result (instruction Kind.Underlay (map seen words.now)) }
+{
+    let gateway = name_at(words, 1)?;
+    let bytes = hex_at(alloc, words, 2)?;
+    Ok(Instruction::Do(Line::Underlay { gateway, bytes }))
+}
+
 /// What the words of a line say, or its first fault.
 fn read_words(alloc: Global, words: &[Word<'_>]) -> Result<Instruction, LineFault>
     requires { AllFit words.now }
@@ -303,4 +320,31 @@ pub(crate) fn read_line(
         return Err(refusal(column, LineReason::Byte).into());
     }
     read_words(alloc, words)
+}
+
+/// The one word of a line of packets.
+fn only_word<'a>(words: &[Word<'a>]) -> Result<Word<'a>, Refusal>
+    ensures { MatchResult result (λ w. only_word (map seen words.now) ≡ Ok (seen w)) (λ e. only_word (map seen words.now) ≡ Err e) }
+{
+    match words {
+        [] => Err(refusal(1, LineReason::Words)),
+        [word] => Ok(*word),
+        [_, surplus, ..] => Err(refusal(surplus.column, LineReason::Words)),
+    }
+}
+
+/// The bytes of a packet, or the first fault of its line.
+pub(crate) fn read_packet(
+    alloc: Global,
+    line: &[u8],
+    words: &[Word<'_>],
+) -> Result<Bytes, LineFault>
+    requires { map seen words.now ≡ text.words line.now }
+    ensures { Reads result (read_packet line.now) }
+{
+    if let Some(column) = bad_byte(line) {
+        return Err(refusal(column, LineReason::Byte).into());
+    }
+    let word = only_word(words)?;
+    hex_value(alloc, word.column, word.bytes)
 }

@@ -1,9 +1,11 @@
 //! The plain world: one gateway, the intent, and the bindings that are installed.
 
-ghost use Rattle.std.specs.Prelude.{◌≡◌, ◌++◌, [], length, map, filter, find, option_map, List, ℕ, IfOk, OnOk};
+ghost use Rattle.std.specs.Prelude.{◌≡◌, ◌++◌, [], length, map, filter, find, option_map, List, ℕ, Ok, Err, IfOk, OnOk, MatchResult};
 ghost use Rattle.std.specs.List.{list_any};
-ghost use Rattle.fabric_world.specs.World.{start, has_vni, wanted, is_service, is_at_place, is_other_member, leaves, flooded, to_itself, hex_word, frame_kind_text, output_text, outputs_text, Drop, No_frame};
+ghost use Rattle.fabric_world.specs.World.{start, has_vni, wanted, is_service, is_at_place, is_other_member, leaves, flooded, to_itself, hex_word, frame_kind_text, packet_kind_text, packet_text, shown_packet, network_has, has_network, is_member, arrived, taken_out, output_text, outputs_text, Drop, No_frame, No_packet};
 ghost use Rattle.vtep_base.specs.Maps as maps;
+ghost use Rattle.vxlan_frames.specs.Packets.{packet_of};
+ghost use Rattle.vtep_base.specs.Memory.{joined};
 ghost use Rattle.fabric_replay.specs.PlainWorld.{world_of, site_of, is_wanted, Runs};
 
 use ether_frames::{Frame, FrameFault, FrameKind, read, write};
@@ -12,6 +14,7 @@ use itoa::Buffer;
 use std::alloc::Global;
 use std::collections::BTreeMap;
 use vtep_base::{Binding, Bytes, Inner, Ipv4, Mode, Name, OutOfMemory, Vlan, Vni};
+use vxlan_frames::{Packet, PacketFault, PacketKind, decode};
 
 /// The most ports of a gateway.
 const MOST_PORTS: usize = 64;
@@ -258,6 +261,102 @@ impl Plain {
         Ok(None)
     }
 
+    /// The switch of the binding has this VNI.
+    fn has_network(&self, entry: &(Binding, Name), vni: Vni) -> bool
+        ensures { result ≡ has_network (world_of self.now).intent vni entry.now }
+    {
+        match self.switches.get(&entry.1) {
+            Some(network) => network.vni == vni,
+            None => false,
+        }
+    }
+
+    /// The bound switch that has this VNI.
+    fn switch_of(&self, vni: Vni) -> Option<Name>
+        ensures { result ≡ option_map (λ e. e.1) (find (has_network (world_of self.now).intent vni) self.now.installed.items) }
+    {
+        'installed: for entry in &self.installed {
+            if self.has_network(entry, vni) {
+                return Some(entry.1);
+            }
+        }
+        None
+    }
+
+    /// Writes the frame at each installed binding of the switch.
+    fn flood_all(
+        &self,
+        alloc: Global,
+        gateway: &Name,
+        switch: &Name,
+        inner: &Inner<'_>,
+        out: &mut Bytes,
+    ) -> Result<(), OutOfMemory>
+        ensures { OnOk result (out.new ≡ out.old ++ outputs_text (map (leaves gateway.now inner.now) (filter (is_member switch.now) self.now.installed.items))) }
+    {
+        'installed: for entry in &self.installed {
+            if is_member(entry, switch) {
+                write_frame(alloc, gateway, entry, inner, out)?;
+            }
+        }
+        Ok(())
+    }
+
+    /// Takes a frame out of a tunnel, and writes where it leaves or that it is dropped.
+    fn arrive(
+        &self,
+        alloc: Global,
+        gateway: &Name,
+        vni: Vni,
+        inner: &Inner<'_>,
+        out: &mut Bytes,
+    ) -> Result<(), OutOfMemory>
+        ensures { OnOk result (out.new ≡ out.old ++ outputs_text (arrived gateway.now (site_of self.now) inner.now (find (has_network (world_of self.now).intent vni) self.now.installed.items))) }
+    {
+        let Some(switch) = self.switch_of(vni) else {
+            return out.append_all(&[b"drop ", gateway.as_slice(), b" vni\n"]);
+        };
+        if to_itself(inner) {
+            return Ok(());
+        }
+        self.flood_all(alloc, gateway, &switch, inner, out)
+    }
+
+    /// Takes the frame out of a packet, and writes where it leaves or that it is dropped.
+    fn take_out(
+        &self,
+        alloc: Global,
+        gateway: &Name,
+        packet: &Packet<'_>,
+        out: &mut Bytes,
+    ) -> Result<(), OutOfMemory>
+        ensures { OnOk result (out.new ≡ out.old ++ outputs_text (taken_out gateway.now (world_of self.now).intent (site_of self.now) (Ok (packet.now.src, packet.now.dst, packet.now.vni, packet.now.inner)))) }
+    {
+        if packet.dst != self.ip {
+            return out.append_all(&[b"drop ", gateway.as_slice(), b" address\n"]);
+        }
+        self.arrive(alloc, gateway, packet.vni, &packet.inner, out)
+    }
+
+    fn underlay(
+        &self,
+        alloc: Global,
+        gateway: &Name,
+        bytes: &[u8],
+        out: &mut Bytes,
+    ) -> Result<Option<Fault>, OutOfMemory>
+        ensures { IfOk result (λ fault. Runs (world_of self.now) (world_of self.now) out.old out.new (Line.Underlay gateway.now bytes.now) fault) }
+    {
+        if !self.knows(gateway) {
+            return Ok(Some(Fault::Unknown(1)));
+        }
+        match decoded(bytes) {
+            Ok(packet) => self.take_out(alloc, gateway, &packet, out)?,
+            Err(fault) => write_packet_fault(gateway, fault, out)?,
+        }
+        Ok(None)
+    }
+
     /// Runs a line and appends what it writes, or says why it is refused and changes nothing.
     pub(crate) fn run(
         &mut self,
@@ -278,6 +377,9 @@ impl Plain {
                 port,
                 bytes,
             } => self.frame(alloc, gateway, port, bytes.as_slice(), out),
+            Line::Underlay { gateway, bytes } => {
+                self.underlay(alloc, gateway, bytes.as_slice(), out)
+            }
         }
     }
 }
@@ -295,6 +397,12 @@ fn is_at_place(entry: &(Binding, Name), port: &Name, vlan: Vlan) -> bool
     ensures { result ≡ is_at_place port.now vlan entry.now }
 {
     entry.0.port == *port && entry.0.vlan == vlan
+}
+
+fn is_member(entry: &(Binding, Name), switch: &Name) -> bool
+    ensures { result ≡ is_member switch.now entry.now }
+{
+    entry.1 == *switch
 }
 
 /// The entry is of the switch, and at another place than this.
@@ -367,6 +475,102 @@ fn write_fault(gateway: &Name, fault: FrameFault, out: &mut Bytes) -> Result<(),
         gateway.as_slice(),
         b" frame ",
         frame_kind_text(&fault.kind),
+        b" ",
+        offset.format(fault.offset).as_bytes(),
+        b"\n",
+    ])
+}
+
+/// A packet, by the first fault alone.
+fn decoded(bytes: &[u8]) -> Result<Packet<'_>, PacketFault>
+    ensures { MatchResult result (λ p. packet_of bytes.now ≡ Ok (p.src, p.dst, p.vni, p.inner)) (λ e. packet_of bytes.now ≡ Err e) }
+{
+    decode(bytes)
+}
+
+fn packet_kind_text(kind: &PacketKind) -> &[u8]
+    ensures { result.now ≡ packet_kind_text kind.now }
+{
+    match kind {
+        PacketKind::Short => b"Short",
+        PacketKind::Version => b"Version",
+        PacketKind::HeaderLength => b"HeaderLength",
+        PacketKind::TotalLength => b"TotalLength",
+        PacketKind::Checksum => b"Checksum",
+        PacketKind::Fragment => b"Fragment",
+        PacketKind::Protocol => b"Protocol",
+        PacketKind::Port => b"Port",
+        PacketKind::UdpLength => b"UdpLength",
+        PacketKind::NoVni => b"NoVni",
+        PacketKind::InnerShort => b"InnerShort",
+        PacketKind::InnerTag => b"InnerTag",
+        PacketKind::InnerLong => b"InnerLong",
+    }
+}
+
+/// Writes that bytes are no packet.
+fn write_packet_fault(
+    gateway: &Name,
+    fault: PacketFault,
+    out: &mut Bytes,
+) -> Result<(), OutOfMemory>
+    ensures { OnOk result (out.new ≡ out.old ++ output_text (Drop gateway.now (No_packet fault))) }
+{
+    let mut offset = Buffer::new();
+    out.append_all(&[
+        b"drop ",
+        gateway.as_slice(),
+        b" packet ",
+        packet_kind_text(&fault.kind),
+        b" ",
+        offset.format(fault.offset).as_bytes(),
+        b"\n",
+    ])
+}
+
+/// Shows a packet: what it says, or why the bytes are none.
+pub(crate) fn write_packet(alloc: Global, bytes: &[u8], out: &mut Bytes) -> Result<(), OutOfMemory>
+    ensures { OnOk result (out.new ≡ out.old ++ packet_text bytes.now) }
+{
+    match decoded(bytes) {
+        Ok(packet) => write_said(alloc, &packet, out),
+        Err(fault) => write_refused(fault, out),
+    }
+}
+
+/// Shows what a packet says.
+fn write_said(alloc: Global, packet: &Packet<'_>, out: &mut Bytes) -> Result<(), OutOfMemory>
+    ensures { OnOk result (out.new ≡ out.old ++ joined (shown_packet (Ok (packet.now.src, packet.now.dst, packet.now.vni, packet.now.inner)))) }
+{
+    let mut src = Bytes::new(alloc);
+    packet.src.print(&mut src)?;
+    let mut dst = Bytes::new(alloc);
+    packet.dst.print(&mut dst)?;
+    let mut vni = Buffer::new();
+    let mut inner = Bytes::new(alloc);
+    inner.append_all(&[packet.inner.addresses(), packet.inner.rest()])?;
+    let text = hex_word(alloc, inner.as_slice())?;
+    out.append_all(&[
+        b"packet ",
+        src.as_slice(),
+        b" ",
+        dst.as_slice(),
+        b" ",
+        vni.format(packet.vni.number()).as_bytes(),
+        b" ",
+        text.as_slice(),
+        b"\n",
+    ])
+}
+
+/// Writes why bytes are no packet.
+fn write_refused(fault: PacketFault, out: &mut Bytes) -> Result<(), OutOfMemory>
+    ensures { OnOk result (out.new ≡ out.old ++ joined (shown_packet (Err fault))) }
+{
+    let mut offset = Buffer::new();
+    out.append_all(&[
+        b"refused ",
+        packet_kind_text(&fault.kind),
         b" ",
         offset.format(fault.offset).as_bytes(),
         b"\n",

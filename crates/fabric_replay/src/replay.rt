@@ -87,7 +87,7 @@ fn show(state: &State, out: &mut Bytes) -> Result<(), OutOfMemory>
 {
     match &state.place {
         Place::Stopped(refusal) => write_refusal(state.number, refusal, out),
-        Place::Waiting | Place::Going | Place::Over => Ok(()),
+        Place::Waiting | Place::Going | Place::Inspecting | Place::Over => Ok(()),
     }
 }
 
@@ -96,7 +96,7 @@ fn status_at(state: &State) -> Option<Status>
     ensures { result ≡ status_at (stage_of state.now) }
 {
     match state.place {
-        Place::Waiting | Place::Going => None,
+        Place::Waiting | Place::Going | Place::Inspecting => None,
         Place::Over => Some(Status::Done),
         Place::Stopped(_) => Some(Status::Refused),
     }
@@ -171,9 +171,9 @@ fn fill<K: Sink>(script: &mut Script, out: &mut Bytes, sink: &mut K) -> Status
     }
 }
 
-/// Runs the script that is read.
-fn replay<S: Source, K: Sink>(alloc: Global, source: &mut S, sink: &mut K) -> Status
-    ensures { Ran (Some Form.Replay)
+/// Runs the text that is read.
+fn run_text<S: Source, K: Sink>(alloc: Global, form: Form, source: &mut S, sink: &mut K) -> Status
+    ensures { Ran (Some form)
         (record { left = S.left source.old; taken = S.taken source.old; faults = S.faults source.old; ends = S.ends source.old })
         (record { left = S.left source.new; taken = S.taken source.new; faults = S.faults source.new; ends = S.ends source.new })
         (record { written = K.written sink.old; faults = K.faults sink.old })
@@ -183,7 +183,7 @@ fn replay<S: Source, K: Sink>(alloc: Global, source: &mut S, sink: &mut K) -> St
         return Status::NoMemory;
     };
     let mut out = Bytes::new(alloc);
-    let mut script = Script::new(alloc);
+    let mut script = Script::new(alloc, form);
     let mut left = MOST;
     'piece: while left > 0 {
         let (room, _) = buffer.split_at_mut(left.min(PIECE));
@@ -208,6 +208,7 @@ fn form_of(words: &[String]) -> Option<Form>
 {
     match words {
         [word] if word.as_bytes() == b"replay".as_slice() => Some(Form::Replay),
+        [word] if word.as_bytes() == b"inspect".as_slice() => Some(Form::Inspect),
         _ => None,
     }
 }
@@ -224,11 +225,11 @@ fn usage<K: Sink>(sink: &mut K) -> Status
     }
 }
 
-/// Runs what the words ask for: reads the script from the source, and writes to the sink each frame that leaves a port,
-/// and the line of the refusal, where the script is refused.
+/// Runs what the words ask for. `replay` reads a script from the source, and writes to the sink each frame that leaves a
+/// port; `inspect` reads a packet a line, and writes what it says or why it is none. Where a line is refused both write that.
 ///
 /// Words of no form make it write the usage line, read nothing and answer `Usage`. It answers `Done` where the script's
-/// end line was run, `Refused` where a line was refused, `ReadFault` and `WriteFault` where source or sink failed in this
+/// end line was run or the packets ended, `Refused` where a line was refused, `ReadFault` and `WriteFault` where source or sink failed in this
 /// run, and `NoMemory` where memory ran out. By then it has written the output of what it read, or a front of that.
 pub fn run<S: Source, K: Sink>(
     alloc: Global,
@@ -241,7 +242,7 @@ pub fn run<S: Source, K: Sink>(
         (record { left = S.left source.new; taken = S.taken source.new; faults = S.faults source.new; ends = S.ends source.new })
         (record { written = K.written sink.old; faults = K.faults sink.old })
         (record { written = K.written sink.new; faults = K.faults sink.new }) result }
-    ensures complete { form_of (map string_bytes words.now.items) ≡ Some Form.Replay → Completes
+    ensures complete { (form : Form) → form_of (map string_bytes words.now.items) ≡ Some form → Completes form
         (record { left = S.left source.old; taken = S.taken source.old; faults = S.faults source.old; ends = S.ends source.old })
         (record { left = S.left source.new; taken = S.taken source.new; faults = S.faults source.new; ends = S.ends source.new })
         (record { written = K.written sink.old; faults = K.faults sink.old })
@@ -249,7 +250,7 @@ pub fn run<S: Source, K: Sink>(
     ensures delivers { DeliversInstalled }
 {
     match form_of(words.as_slice()) {
-        Some(Form::Replay) => replay(alloc, source, sink),
+        Some(form) => run_text(alloc, form, source, sink),
         None => usage(sink),
     }
 }

@@ -3,16 +3,16 @@
 ghost use Rattle.std.specs.Prelude.{◌≡◌, ℕ, List, ◌+◌, ◌-◌, ◌^◌, ◌≤◌, ◌<◌, ◌++◌, ◌∷◌, [], length, take, drop, map, OnOk, MatchOption, IsTrue};
 ghost use Rattle.fabric_world.specs.Text as text;
 ghost use Rattle.fabric_world.specs.Text.{cut, without_return, NoFeed, is_skipped};
-ghost use Rattle.fabric_world.specs.Script.{Stage, Waiting, Going, Over, Stopped, play_one, play, refused_by, is_opening, run_instruction, play_rest, closed, closing, Ended, Full};
+ghost use Rattle.fabric_world.specs.Script.{Stage, Waiting, Going, Over, Stopped, Inspecting, first_of, play_one, play, refused_by, is_opening, run_instruction, play_rest, ended, full, closing, Ended, Full};
 ghost use Rattle.fabric_world.specs.Lines.{column_at};
 ghost use Rattle.fabric_replay.specs.Seen.{seen, AllFit};
 ghost use Rattle.fabric_replay.specs.PlainWorld.{world_of};
 ghost use Rattle.fabric_replay.specs.Stages.{stage_of, Plays, EndsLine, Feeds};
 
-use crate::lines::{LineFault, read_line};
-use crate::plain::Plain;
+use crate::lines::{LineFault, read_line, read_packet};
+use crate::plain::{Plain, write_packet};
 use crate::words::{Word, bad_byte, is_skipped, words};
-use fabric_world::{Fault, Instruction, Refusal};
+use fabric_world::{Fault, Form, Instruction, Refusal};
 use memchr::memchr;
 use std::alloc::Global;
 use vtep_base::{Bytes, LineReason, OutOfMemory};
@@ -27,6 +27,8 @@ pub(crate) enum Place {
     Over,
     /// A line was refused.
     Stopped(Refusal),
+    /// Each line is a packet.
+    Inspecting,
 }
 
 /// The state of a script, with the number of the line that is next, or that was refused.
@@ -73,12 +75,16 @@ fn refusal_by(words: &[Word<'_>], fault: Fault) -> Refusal
 }
 
 impl State {
-    fn new(alloc: Global) -> State
-        ensures stage { stage_of result ≡ Waiting 1 }
+    fn new(alloc: Global, form: Form) -> State
+        ensures stage { stage_of result ≡ first_of form }
         ensures number { result.number ≡ 1 }
     {
+        let place = match form {
+            Form::Replay => Place::Waiting,
+            Form::Inspect => Place::Inspecting,
+        };
         State {
-            place: Place::Waiting,
+            place,
             number: 1,
             world: Plain::new(alloc),
         }
@@ -158,16 +164,59 @@ impl State {
         }
     }
 
-    /// A script that is neither over nor refused is refused at the next line.
-    fn close(&mut self, unopened: LineReason, unended: LineReason)
-        ensures { (text : List ℕ) → closed unopened unended (record { text = text; stage = stage_of self.old }) ≡ record { text = text; stage = stage_of self.new } }
+    fn refuse(&mut self, column: usize, reason: LineReason)
+        ensures stage { stage_of self.new ≡ Stopped self.old.number (record { column = column; reason = reason }) }
+        ensures number { self.new.number ≡ self.old.number }
     {
-        let reason = match self.place {
-            Place::Waiting => unopened,
-            Place::Going => unended,
-            Place::Over | Place::Stopped(_) => return,
-        };
-        self.place = Place::Stopped(Refusal { column: 1, reason });
+        self.place = Place::Stopped(Refusal { column, reason });
+    }
+
+    /// Shows the packet of a line.
+    fn inspect(&mut self, alloc: Global, line: &[u8], out: &mut Bytes) -> Result<(), OutOfMemory>
+        requires room { self.old.number < 2 ^ 62 }
+        requires inspecting { self.old.place ≡ Place.Inspecting }
+        ensures plays { OnOk result (Plays (stage_of self.old) line.now out.old (stage_of self.new) out.new) }
+        ensures number { OnOk result (self.new.number ≤ self.old.number + 1) }
+    {
+        let words = words(alloc, line)?;
+        if is_skipped(words.as_slice()) {
+            self.number += 1;
+            return Ok(());
+        }
+        match read_packet(alloc, line, words.as_slice()) {
+            Ok(bytes) => {
+                write_packet(alloc, bytes.as_slice(), out)?;
+                self.number += 1;
+                Ok(())
+            }
+            Err(LineFault::OutOfMemory) => Err(OutOfMemory),
+            Err(LineFault::Refused(refusal)) => {
+                self.place = Place::Stopped(refusal);
+                Ok(())
+            }
+        }
+    }
+
+    /// The text ends: a script that is neither over nor refused is refused at the next line, and packets are over.
+    fn end(&mut self)
+        ensures { (text : List ℕ) → ended (record { text = text; stage = stage_of self.old }) ≡ record { text = text; stage = stage_of self.new } }
+    {
+        match self.place {
+            Place::Waiting => self.refuse(1, LineReason::First),
+            Place::Going => self.refuse(1, LineReason::End),
+            Place::Inspecting => self.place = Place::Over,
+            Place::Over | Place::Stopped(_) => {}
+        }
+    }
+
+    /// No more may be read: what is neither over nor refused is refused at the next line.
+    fn fill(&mut self)
+        ensures { full (stage_of self.old) ≡ record { text = []; stage = stage_of self.new } }
+    {
+        match self.place {
+            Place::Waiting | Place::Going | Place::Inspecting => self.refuse(1, LineReason::Long),
+            Place::Over | Place::Stopped(_) => {}
+        }
     }
 
     /// Takes a line.
@@ -179,6 +228,7 @@ impl State {
         match self.place {
             Place::Waiting => self.open(alloc, line),
             Place::Going => self.go(alloc, line, out),
+            Place::Inspecting => self.inspect(alloc, line, out),
             Place::Over | Place::Stopped(_) => Ok(()),
         }
     }
@@ -215,13 +265,13 @@ pub(crate) struct Script {
 
 impl Script {
     /// A script of which nothing was taken.
-    pub(crate) fn new(alloc: Global) -> Script
-        ensures stage { stage_of result.state ≡ Waiting 1 }
+    pub(crate) fn new(alloc: Global, form: Form) -> Script
+        ensures stage { stage_of result.state ≡ first_of form }
         ensures front { result.front.items ≡ [] }
         ensures number { result.state.number ≡ 1 }
     {
         Script {
-            state: State::new(alloc),
+            state: State::new(alloc, form),
             front: Vec::new(alloc),
         }
     }
@@ -289,7 +339,7 @@ impl Script {
         ensures stage { OnOk result (stage_of self.new.state ≡ (closing Ended (stage_of self.old.state) self.old.front.items).stage) }
     {
         self.play_rest(alloc, out)?;
-        self.state.close(LineReason::First, LineReason::End);
+        self.state.end();
         Ok(())
     }
 
@@ -297,6 +347,6 @@ impl Script {
     pub(crate) fn fill(&mut self)
         ensures { closing Full (stage_of self.old.state) self.old.front.items ≡ record { text = []; stage = stage_of self.new.state } }
     {
-        self.state.close(LineReason::Long, LineReason::Long);
+        self.state.fill();
     }
 }

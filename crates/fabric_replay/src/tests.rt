@@ -363,3 +363,115 @@ fn needs_words(rt: HostRuntime) -> Result<(), Fail> {
     }
     Ok(())
 }
+
+/// The worked packet: 10.0.0.1 to 10.0.0.2, network 100, one broadcast.
+const PACKET: &[u8] =
+    b"4500003200004000401126b90a0000010a000002c73a12b5001e00000800000000006400ffffffffffff02000000000188b5";
+
+#[test]
+fn takes_packets(rt: HostRuntime) -> Result<(), Fail> {
+    let start: &[u8] =
+        b"fabric 1\ngateway g2 10.0.0.2\nport g2 p1\nport g2 p2\nswitch red 100 source\nswitch blue 101 source\nbind red g2 p1 0\nbind red g2 p2 7\nsettle\nunderlay g2 ";
+    let cases: [(&[u8], &[u8]); 9] = [
+        (
+            PACKET,
+            b"out g2 p1 ffffffffffff02000000000188b5\nout g2 p2 ffffffffffff0200000000018100000788b5\n",
+        ),
+        (
+            b"4500003200004000401126b90a0000010a000002c73a12b5001e000008ffffff000064ffffffffffffff02000000000188b5",
+            b"out g2 p1 ffffffffffff02000000000188b5\nout g2 p2 ffffffffffff0200000000018100000788b5\n",
+        ),
+        (
+            b"4500003200004000401126b90a0000010a000002c73a12b5001e00000800000000006400020000000001020000000001aaaa",
+            b"",
+        ),
+        (
+            b"4500003200004000401126b90a0000010a000002c73a12b5001e00000000000000006400ffffffffffff02000000000188b5",
+            b"drop g2 packet NoVni 28\n",
+        ),
+        (
+            b"4500003200004000401126ba0a0000010a000002c73a12b5001e00000800000000006400ffffffffffff02000000000188b5",
+            b"drop g2 packet Checksum 10\n",
+        ),
+        (
+            b"4500003200002000401146b90a0000010a000002c73a12b5001e00000800000000006400ffffffffffff02000000000188b5",
+            b"drop g2 packet Fragment 6\n",
+        ),
+        (
+            b"4500003200004000401126b90a0000010a000002c73a12b5001e00000800000000006500ffffffffffff02000000000188b5",
+            b"drop g2 vni\n",
+        ),
+        (
+            b"4500003200004000401126b80a0000010a000003c73a12b5001e00000800000000006400ffffffffffff02000000000188b5",
+            b"drop g2 address\n",
+        ),
+        (b"-", b"drop g2 packet Short 0\n"),
+    ];
+    for (packet, wanted) in &cases {
+        let mut output = Bytes::from_slice(rt.alloc(), b"settled\n")?;
+        output.append(wanted)?;
+        let pieces = [start, *packet, b"\nend\n".as_slice()];
+        let (status, written) = ran(rt.alloc(), &["replay"], &pieces, &[], &[])?;
+        assert_eq!(rt; written.as_slice(), output.as_slice());
+        assert_eq!(rt; status, 0);
+    }
+    let lines: [(&[u8], &[u8]); 3] = [
+        (b"underlay g9 00", b"10 unknown"),
+        (b"underlay g1", b"12 words"),
+        (b"underlay g1 0", b"13 value"),
+    ];
+    for (line, wanted) in &lines {
+        let pieces = [START, *line, b"\nend\n".as_slice()];
+        let (status, written) = ran(rt.alloc(), &["replay"], &pieces, &[], &[])?;
+        let mut output = Bytes::from_slice(rt.alloc(), b"refused 6 ")?;
+        output.append_all(&[*wanted, b"\n"])?;
+        assert_eq!(rt; written.as_slice(), output.as_slice());
+        assert_eq!(rt; status, 3);
+    }
+    Ok(())
+}
+
+#[test]
+fn inspects(rt: HostRuntime) -> Result<(), Fail> {
+    let said: &[u8] = b"packet 10.0.0.1 10.0.0.2 100 ffffffffffff02000000000188b5\n";
+    let (status, written) = ran(
+        rt.alloc(),
+        &["inspect"],
+        &[
+            b"# packets\n\n ".as_slice(),
+            PACKET,
+            b" \r\n-\n".as_slice(),
+            PACKET,
+        ],
+        &[],
+        &[],
+    )?;
+    let mut output = Bytes::from_slice(rt.alloc(), said)?;
+    output.append_all(&[b"refused Short 0\n", said])?;
+    assert_eq!(rt; written.as_slice(), output.as_slice());
+    assert_eq!(rt; status, 0);
+    let cases: [(&[u8], u8, &[u8]); 8] = [
+        (b"", 0, b""),
+        (b"# none", 0, b""),
+        (
+            b"4500003200004000401126b90a0000010a0000",
+            0,
+            b"refused Short 19\n",
+        ),
+        (b"-\nxy\n-\n", 3, b"refused Short 0\nrefused 2 1 value\n"),
+        (b" 000", 3, b"refused 1 2 value\n"),
+        (b"  -  -", 3, b"refused 1 6 words\n"),
+        (b"xy \x7f", 3, b"refused 1 4 byte\n"),
+        (b"end\n", 3, b"refused 1 1 value\n"),
+    ];
+    for (text, wanted_status, wanted) in &cases {
+        let (status, written) = ran(rt.alloc(), &["inspect"], &[*text], &[], &[])?;
+        assert_eq!(rt; written.as_slice(), *wanted);
+        assert_eq!(rt; status, *wanted_status);
+    }
+    let (status, _) = ran(rt.alloc(), &["inspect"], &[PACKET], &[1], &[])?;
+    assert_eq!(rt; status, 4);
+    let (status, _) = ran(rt.alloc(), &["inspect"], &[b"-\n".as_slice()], &[], &[0])?;
+    assert_eq!(rt; status, 5);
+    Ok(())
+}

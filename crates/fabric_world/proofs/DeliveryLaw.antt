@@ -19,9 +19,9 @@ use Rattle.vtep_base.specs.declared.bindings.Binding.{Binding}
 use Rattle.ether_frames.specs.Frames.{Carries, frame_of, tagged}
 use Rattle.ether_frames.specs.declared.FrameFault.{FrameFault}
 use Rattle.ether_frames.proofs.Carried.{read_back}
-use Rattle.fabric_world.specs.Lines.{same_bytes}
+use Rattle.vtep_base.specs.Reading.{same_bytes}
 use Rattle.fabric_world.specs.declared.Line.{Line}
-use Rattle.fabric_world.specs.declared.Line.TheVariants.{Gateway, Port, Switch, Bind, Settle, Frame}
+use Rattle.fabric_world.specs.declared.Line.TheVariants.{Gateway, Port, Switch, Bind, Settle, Frame, Underlay}
 use Rattle.fabric_world.specs.declared.Fault.{Fault}
 use Rattle.fabric_world.specs.World.{World, Site, Intent, start, first_of, has_ip, fault, step, Out, bytes_cmp, binding_cmp, at_site, wanted, installed_each, is_at_place, is_other_member, leaves, to_itself, flooded, entered, frame_outputs}
 use Rattle.fabric_world.specs.Logical.{IsIn, EachOnce, Logical, Delivers, member, members, destination, source}
@@ -195,6 +195,7 @@ good_step w (Switch s n) one h e = h
 good_step w (Bind s b) one h e = h
 good_step w Settle one h e = good_settled w.intent w.sites.list h
 good_step w (Frame g p bytes) one h e = h
+good_step w (Underlay g bytes) one h e = h
 
 at_site_limits : (change : Site → Site) (w : World) (g : Bytes) (o : Option Site) → (at_site change w g o).limits ≡ w.limits
 at_site_limits change w g None = refl
@@ -207,6 +208,7 @@ step_limits w (Switch s n) = refl
 step_limits w (Bind s b) = refl
 step_limits w Settle = refl
 step_limits w (Frame g p bytes) = refl
+step_limits w (Underlay g bytes) = refl
 
 good_after : (lines : List Line) (w : World) → w.limits.gateways ≡ 1 → IsGood w.sites.list → Accepts w lines → IsGood (after w lines).sites.list
 good_after [] w one h a = h

@@ -5,7 +5,7 @@ use Rattle.vtep_base.specs.Reading.{Bytes}
 use Rattle.fabric_world.specs.Text.{cut, without_return, NoFeed}
 use Rattle.vtep_base.specs.Memory.{joined}
 use Rattle.fabric_world.specs.Pieces.{feed, feed_all, whole, CutsDoNotMatter}
-use Rattle.fabric_world.specs.Script.{Stage, Waiting, Over, Stopped, Played, silent, behind, play_one, play, played}
+use Rattle.fabric_world.specs.Script.{Stage, Over, Stopped, Played, silent, behind, play_one, play, played}
 
 -- a line and its line feed
 pub cut-line : (line bs front : Bytes) → NoFeed line → cut front (line ++ 10 ∷ bs) ≡ (without_return (front ++ line) ∷ (cut [] bs).0, (cut [] bs).1)
@@ -52,20 +52,20 @@ play-stopped n why [] = refl
 play-stopped n why (l ∷ ls) = ap (behind []) (play-stopped n why ls)
 
 -- the whole lines of a text and a further piece
-pub played-append : (a b : Bytes) → played (a ++ b) ≡ behind (played a).text (play (played a).stage (cut (cut [] a).1 b).0)
-played-append a b = ap (λ c. play (Waiting 1) c.0) (cut-append a b []) ∙ play-append (Waiting 1) (cut [] a).0 (cut (cut [] a).1 b).0
+pub played-append : (first : Stage) (a b : Bytes) → played first (a ++ b) ≡ behind (played first a).text (play (played first a).stage (cut (cut [] a).1 b).0)
+played-append first a b = ap (λ c. play first c.0) (cut-append a b []) ∙ play-append first (cut [] a).0 (cut (cut [] a).1 b).0
 
 -- ---- pieces
 
-feed_whole : (text piece : Bytes) → feed (whole text) piece ≡ whole (text ++ piece)
-feed_whole text piece =
-    ap (λ (p : Played). record { lines = p; rest = (cut (cut [] text).1 piece).1 }) (sym (played-append text piece))
-    ∙ ap (λ (c : List Bytes × Bytes). record { lines = played (text ++ piece); rest = c.1 }) (sym (cut-append text piece []))
+feed_whole : (first : Stage) (text piece : Bytes) → feed (whole first text) piece ≡ whole first (text ++ piece)
+feed_whole first text piece =
+    ap (λ (p : Played). record { lines = p; rest = (cut (cut [] text).1 piece).1 }) (sym (played-append first text piece))
+    ∙ ap (λ (c : List Bytes × Bytes). record { lines = played first (text ++ piece); rest = c.1 }) (sym (cut-append text piece []))
 
-feed_all_whole : (text : Bytes) (pieces : List Bytes) → feed_all (whole text) pieces ≡ whole (text ++ joined pieces)
-feed_all_whole text [] = ap whole (sym (append-nil text))
-feed_all_whole text (piece ∷ pieces) =
-    ap (λ f. feed_all f pieces) (feed_whole text piece) ∙ feed_all_whole (text ++ piece) pieces ∙ ap whole (append_assoc text piece (joined pieces))
+feed_all_whole : (first : Stage) (text : Bytes) (pieces : List Bytes) → feed_all (whole first text) pieces ≡ whole first (text ++ joined pieces)
+feed_all_whole first text [] = ap (whole first) (sym (append-nil text))
+feed_all_whole first text (piece ∷ pieces) =
+    ap (λ f. feed_all f pieces) (feed_whole first text piece) ∙ feed_all_whole first (text ++ piece) pieces ∙ ap (whole first) (append_assoc text piece (joined pieces))
 
 pub cuts_do_not_matter : CutsDoNotMatter
-cuts_do_not_matter pieces = feed_all_whole [] pieces
+cuts_do_not_matter first pieces = feed_all_whole first [] pieces

@@ -3,7 +3,7 @@ use Rattle.std.specs.Prelude.{ℕ, ◌+◌, ◌==◌, Bool, nat_lt, nat_eq, if�
 use Rattle.std.specs.Result.{result_ok}
 use Rattle.std.specs.Cmp.Lexicographic.{pointwise}
 use Rattle.hex.specs.Hex.{decode_of}
-use Rattle.vtep_base.specs.Reading.{Bytes}
+use Rattle.vtep_base.specs.Reading.{Bytes, same_bytes}
 use Rattle.vtep_base.specs.Texts.{name_of, ipv4_of, vni_of, vlan_of}
 use Rattle.vtep_base.specs.declared.answers.Mode.{Mode}
 use Rattle.vtep_base.specs.declared.answers.Mode.TheVariants.{Source, Service}
@@ -12,13 +12,10 @@ use Rattle.vtep_base.specs.declared.answers.LineReason.TheVariants as reason
 use Rattle.fabric_world.specs.declared.Refusal.{Refusal}
 use Rattle.fabric_world.specs.declared.Kind.{Kind}
 use Rattle.fabric_world.specs.declared.Kind.TheVariants as kind
-use Rattle.fabric_world.specs.declared.Line.TheVariants.{Gateway, Port, Switch, Bind, Settle, Frame}
+use Rattle.fabric_world.specs.declared.Line.TheVariants.{Gateway, Port, Switch, Bind, Settle, Frame, Underlay}
 use Rattle.fabric_world.specs.declared.Instruction.{Instruction}
 use Rattle.fabric_world.specs.declared.Instruction.TheVariants.{Do, End}
 use Rattle.fabric_world.specs.Text.{Word, words, bad_byte}
-
-abbrev pub same_bytes : Bytes → Bytes → Bool
-same_bytes = pointwise nat_eq
 
 abbrev pub refuse : {A : Type 0} → ℕ → LineReason → Result A Refusal
 refuse column why = Err (record { column = column; reason = why })
@@ -41,10 +38,11 @@ kind_text kind.Switch = codes "switch"
 kind_text kind.Bind = codes "bind"
 kind_text kind.Settle = codes "settle"
 kind_text kind.Frame = codes "frame"
+kind_text kind.Underlay = codes "underlay"
 kind_text kind.End = codes "end"
 
 abbrev pub kinds : List Kind
-kinds = kind.Gateway ∷ kind.Port ∷ kind.Switch ∷ kind.Bind ∷ kind.Settle ∷ kind.Frame ∷ kind.End ∷ []
+kinds = kind.Gateway ∷ kind.Port ∷ kind.Switch ∷ kind.Bind ∷ kind.Settle ∷ kind.Frame ∷ kind.Underlay ∷ kind.End ∷ []
 
 -- the first of the kinds that has this word
 abbrev pub kind_among : Bytes → List Kind → Option Kind
@@ -62,6 +60,7 @@ arity kind.Switch = 3
 arity kind.Bind = 4
 arity kind.Settle = 0
 arity kind.Frame = 3
+arity kind.Underlay = 2
 arity kind.End = 0
 
 -- ---- the forms of words
@@ -112,6 +111,10 @@ instruction kind.Frame ws = do
   p ← word_at name_of ws 2
   bytes ← word_at hex_of ws 3
   Ok (Do (Frame g p bytes))
+instruction kind.Underlay ws = do
+  g ← word_at name_of ws 1
+  bytes ← word_at hex_of ws 2
+  Ok (Do (Underlay g bytes))
 instruction kind.End ws = Ok End
 
 -- ---- a line
@@ -164,3 +167,17 @@ abbrev pub read_line : Bytes → Result Instruction Refusal
 read_line line = do
   text ← printable (bad_byte line) line
   read_words (words text)
+
+-- ---- a line of packets
+
+abbrev pub only_word : List Word → Result Word Refusal
+only_word [] = refuse 1 reason.Words
+only_word (w ∷ []) = Ok w
+only_word (w ∷ v ∷ ws) = refuse v.column reason.Words
+
+-- the bytes of a packet are its one word
+abbrev pub read_packet : Bytes → Result Bytes Refusal
+read_packet line = do
+  text ← printable (bad_byte line) line
+  w ← only_word (words text)
+  value_at w.column (hex_of w.bytes)

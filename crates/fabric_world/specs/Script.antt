@@ -15,8 +15,9 @@ use Rattle.fabric_world.specs.declared.Instruction.{Instruction}
 use Rattle.fabric_world.specs.declared.Instruction.TheVariants.{Do, End}
 use Rattle.fabric_world.specs.declared.Fault.{Fault}
 use Rattle.fabric_world.specs.declared.Fault.TheVariants.{Unknown, Repeated, Limit, Use}
-use Rattle.fabric_world.specs.Lines.{same_bytes, read_line, column_at}
-use Rattle.fabric_world.specs.World.{World, start, fault, step, outputs, outputs_text}
+use Rattle.vtep_base.specs.Reading.{same_bytes}
+use Rattle.fabric_world.specs.Lines.{read_line, read_packet, column_at}
+use Rattle.fabric_world.specs.World.{World, start, fault, step, outputs, outputs_text, packet_text}
 
 -- ---- one line after another
 
@@ -26,6 +27,7 @@ pub data Stage : Type 0 where
   Going : ℕ → World → Stage
   Over : Stage  -- the end line was run
   Stopped : ℕ → Refusal → Stage  -- the line that was refused
+  Inspecting : ℕ → Stage  -- each line is a packet
 
 -- what was written, and where the script stands then
 pub record Played : Type 0 where
@@ -63,12 +65,17 @@ abbrev pub open_by : ℕ → List Word → Option ℕ → Played
 open_by n ws (Some column) = refused n column reason.Byte
 open_by n ws None = if is_opening ws then silent (Going (n + 1) start) else refused n 1 reason.First
 
+abbrev pub inspected : ℕ → Result Bytes Refusal → Played
+inspected n (Err why) = silent (Stopped n why)
+inspected n (Ok bytes) = record { text = packet_text bytes; stage = Inspecting (n + 1) }
+
 -- a line
 abbrev pub play_one : Stage → Bytes → Played
 play_one (Waiting n) line = if is_skipped (words line) then silent (Waiting (n + 1)) else open_by n (words line) (bad_byte line)
 play_one (Going n w) line = if is_skipped (words line) then silent (Going (n + 1) w) else run_instruction n w (words line) (read_line line)
 play_one Over line = silent Over
 play_one (Stopped n why) line = silent (Stopped n why)
+play_one (Inspecting n) line = if is_skipped (words line) then silent (Inspecting (n + 1)) else inspected n (read_packet line)
 
 -- what is written behind what was written before
 abbrev pub behind : Bytes → Played → Played
@@ -80,24 +87,33 @@ play stage (line ∷ lines) = behind (play_one stage line).text (play (play_one 
 
 -- ---- a whole text
 
--- the whole lines
-abbrev pub played : Bytes → Played
-played text = play (Waiting 1) (cut [] text).0
+-- the whole lines, from the stage before the first
+abbrev pub played : Stage → Bytes → Played
+played first text = play first (cut [] text).0
 
 -- the last line, which lacks its line feed
 abbrev pub play_rest : Stage → Bytes → Played
 play_rest stage [] = silent stage
 play_rest stage (b ∷ bs) = play_one stage (b ∷ bs)
 
--- a script that is neither over nor refused by then is refused at the next line
-abbrev pub closed_by : LineReason → LineReason → Played → Stage → Played
-closed_by unopened unended p (Waiting n) = behind p.text (refused n 1 unopened)
-closed_by unopened unended p (Going n w) = behind p.text (refused n 1 unended)
-closed_by unopened unended p Over = p
-closed_by unopened unended p (Stopped n why) = p
+-- a script that is neither over nor refused when its text ends is refused at the next line; packets are over then
+abbrev pub ended_by : Played → Stage → Played
+ended_by p (Waiting n) = behind p.text (refused n 1 reason.First)
+ended_by p (Going n w) = behind p.text (refused n 1 reason.End)
+ended_by p Over = p
+ended_by p (Stopped n why) = p
+ended_by p (Inspecting n) = behind p.text (silent Over)
 
-abbrev pub closed : LineReason → LineReason → Played → Played
-closed unopened unended p = closed_by unopened unended p p.stage
+abbrev pub ended : Played → Played
+ended p = ended_by p p.stage
+
+-- where no more may be read, what is not over is refused at the next line
+abbrev pub full : Stage → Played
+full (Waiting n) = refused n 1 reason.Long
+full (Going n w) = refused n 1 reason.Long
+full Over = silent Over
+full (Stopped n why) = silent (Stopped n why)
+full (Inspecting n) = refused n 1 reason.Long
 
 -- how the reading of the text ended
 pub data Reading : Type 0 where
@@ -108,11 +124,11 @@ pub data Reading : Type 0 where
 -- what comes of a stage at the end of the reading, where `rest` stands behind the last line feed
 abbrev pub closing : Reading → Stage → Bytes → Played
 closing Short stage rest = silent stage
-closing Ended stage rest = closed reason.First reason.End (play_rest stage rest)
-closing Full stage rest = closed reason.Long reason.Long (silent stage)
+closing Ended stage rest = ended (play_rest stage rest)
+closing Full stage rest = full stage
 
-abbrev pub read_as : Reading → Bytes → Played
-read_as how text = behind (played text).text (closing how (played text).stage (cut [] text).1)
+abbrev pub read_as : Stage → Reading → Bytes → Played
+read_as first how text = behind (played first text).text (closing how (played first text).stage (cut [] text).1)
 
 abbrev pub reason_text : LineReason → Bytes
 reason_text reason.Byte = codes "byte"
@@ -135,9 +151,14 @@ refusal_text _ = []
 abbrev pub shown : Played → Bytes
 shown p = p.text ++ refusal_text p.stage
 
--- the output of a whole script
-abbrev pub output : Bytes → Bytes
-output text = shown (read_as Ended text)
+-- where a form begins
+abbrev pub first_of : Form → Stage
+first_of form.Replay = Waiting 1
+first_of form.Inspect = Inspecting 1
+
+-- the output of a whole text
+abbrev pub output : Form → Bytes → Bytes
+output f text = shown (read_as (first_of f) Ended text)
 
 -- ---- what a run may have read and written
 
@@ -152,6 +173,7 @@ IsStopped _ = ⊥
 abbrev pub IsGoing : Stage → Type 0
 IsGoing (Waiting n) = Unit {0}
 IsGoing (Going n w) = Unit {0}
+IsGoing (Inspecting n) = Unit {0}
 IsGoing _ = ⊥
 
 abbrev pub most_bytes : ℕ
@@ -176,17 +198,17 @@ Answers p how written status.WriteFault = IsPrefix written (shown p)
 Answers p how written status.NoMemory = IsPrefix written (shown p)
 Answers p how written _ = ⊥
 
--- a run took the text of a script and wrote the output
-pub record Replays (has_ended : Type 0) (text written : Bytes) (answer : Status) : Type 0 where
+-- a run took a text and wrote its output
+pub record Replays (first : Stage) (has_ended : Type 0) (text written : Bytes) (answer : Status) : Type 0 where
   pub how : Reading
   pub read : IsReading has_ended text how
-  pub answers : Answers (read_as how text) how written answer
+  pub answers : Answers (read_as first how text) how written answer
   pub most : length text ≤ most_bytes
 
 -- ---- the words of the program
 
 abbrev pub form_of : List Bytes → Option Form
-form_of (word ∷ []) = if same_bytes word (codes "replay") then Some form.Replay else None
+form_of (word ∷ []) = if same_bytes word (codes "replay") then Some form.Replay else if same_bytes word (codes "inspect") then Some form.Inspect else None
 form_of _ = None
 
 abbrev pub usage_line : Bytes
@@ -200,7 +222,7 @@ AnswersUsage written _ = ⊥
 
 abbrev pub AnswersForm : Option Form → Type 0 → Bytes → Bytes → Status → Type 0
 AnswersForm None has_ended text written answer = (text ≡ []) × AnswersUsage written answer
-AnswersForm (Some form.Replay) has_ended text written answer = Replays has_ended text written answer
+AnswersForm (Some f) has_ended text written answer = Replays (first_of f) has_ended text written answer
 
 -- the source answered End, and no byte is left where it tells them
 pub record HasEnded (before now : SourceState) : Type 0 where
@@ -220,14 +242,14 @@ pub record Ran (asked : Option Form) (source source_after : SourceState) (sink s
   pub source_faults : source.faults ≤ source_after.faults
   pub sink_faults : sink.faults ≤ sink_after.faults
 
--- the script is not refused, and its end can be reached
-pub record IsAccepted (script : Bytes) : Type 0 where
-  pub over : IsOver (read_as Ended script).stage
-  pub reached : (length script < most_bytes) ⊎ IsOver (played (take most_bytes script)).stage
+-- the text is not refused, and its end can be reached
+pub record IsAccepted (first : Stage) (text : Bytes) : Type 0 where
+  pub over : IsOver (read_as first Ended text).stage
+  pub reached : (length text < most_bytes) ⊎ IsOver (played first (take most_bytes text)).stage
 
--- where no count of faults rises, a script that is not refused is run whole, unless memory runs out
-abbrev pub Completes : SourceState → SourceState → SinkState → SinkState → Status → Type 0
-Completes source source_after sink sink_after answer =
-    (script : Bytes) → source.left ≡ Some script → IsAccepted script
+-- where no count of faults rises, a text that is not refused is run whole, unless memory runs out
+abbrev pub Completes : Form → SourceState → SourceState → SinkState → SinkState → Status → Type 0
+Completes f source source_after sink sink_after answer =
+    (text : Bytes) → source.left ≡ Some text → IsAccepted (first_of f) text
     → (Rose source.faults source_after.faults → ⊥) → (Rose sink.faults sink_after.faults → ⊥)
-    → (answer ≡ status.NoMemory) ⊎ ((answer ≡ status.Done) × Grows sink.written (output script) sink_after.written)
+    → (answer ≡ status.NoMemory) ⊎ ((answer ≡ status.Done) × Grows sink.written (output f text) sink_after.written)

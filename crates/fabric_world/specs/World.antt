@@ -8,6 +8,7 @@ use Rattle.hex.specs.Hex.{encode_lower}
 use Rattle.vtep_base.specs.Reading.{Bytes}
 use Rattle.vtep_base.specs.Maps as maps
 use Rattle.vtep_base.specs.Memory.{joined}
+use Rattle.vtep_base.specs.Texts.{ipv4_text}
 use Rattle.vtep_base.specs.Maps.{Map}
 use Rattle.vtep_base.specs.declared.answers.Mode.{Mode}
 use Rattle.vtep_base.specs.declared.answers.Mode.TheVariants.{Source, Service}
@@ -16,12 +17,16 @@ use Rattle.ether_frames.specs.Frames.{frame_of, tagged}
 use Rattle.ether_frames.specs.declared.FrameFault.{FrameFault}
 use Rattle.ether_frames.specs.declared.FrameKind.{FrameKind}
 use Rattle.ether_frames.specs.declared.FrameKind.TheVariants as frame_kind
+use Rattle.vxlan_frames.specs.Packets.{packet_of}
+use Rattle.vxlan_frames.specs.declared.PacketFault.{PacketFault}
+use Rattle.vxlan_frames.specs.declared.PacketKind.{PacketKind}
+use Rattle.vxlan_frames.specs.declared.PacketKind.TheVariants as packet_kind
 use Rattle.fabric_world.specs.declared.Network.{Network}
 use Rattle.fabric_world.specs.declared.Line.{Line}
-use Rattle.fabric_world.specs.declared.Line.TheVariants.{Gateway, Port, Switch, Bind, Settle, Frame}
+use Rattle.fabric_world.specs.declared.Line.TheVariants.{Gateway, Port, Switch, Bind, Settle, Frame, Underlay}
 use Rattle.fabric_world.specs.declared.Fault.{Fault}
 use Rattle.fabric_world.specs.declared.Fault.TheVariants.{Unknown, Repeated, Limit, Use}
-use Rattle.fabric_world.specs.Lines.{same_bytes}
+use Rattle.vtep_base.specs.Reading.{same_bytes}
 
 -- ---- the state
 
@@ -108,13 +113,17 @@ fault w Settle = None
 fault w (Frame g p bytes) = first_of (
     (not (maps.has w.sites g), Unknown 1)
     ∷ (not (has_port p (maps.get w.sites g)), Unknown 2) ∷ [])
+fault w (Underlay g bytes) = first_of ((not (maps.has w.sites g), Unknown 1) ∷ [])
 
 -- ---- what a line does
 
--- why a frame goes nowhere
+-- why a frame or a packet goes nowhere
 pub data Reason : Type 0 where
   No_frame : FrameFault → Reason
   Unbound : Reason
+  No_packet : PacketFault → Reason
+  Other_address : Reason
+  Unknown_vni : Reason
 
 pub data Output : Type 0 where
   Settled : Output
@@ -165,6 +174,31 @@ abbrev pub frame_outputs : Bytes → Bytes → Bytes → Option Site → List Ou
 frame_outputs g p bytes None = []
 frame_outputs g p bytes (Some site) = entered g site p (frame_of bytes)
 
+-- a binding's switch has this VNI
+abbrev pub network_has : ℕ → Option Network → Bool
+network_has vni None = false
+network_has vni (Some n) = n.vni == vni
+
+abbrev pub has_network : Intent → ℕ → Binding × Bytes → Bool
+has_network intent vni e = network_has vni (maps.get intent.switches e.1)
+
+abbrev pub is_member : Bytes → Binding × Bytes → Bool
+is_member s e = same_bytes e.1 s
+
+-- a frame out of a tunnel floods the switch
+abbrev pub arrived : Bytes → Site → Bytes → Option (Binding × Bytes) → List Output
+arrived g site inner None = Drop g Unknown_vni ∷ []
+arrived g site inner (Some e) = if to_itself inner then [] else map (leaves g inner) (filter (is_member e.1) site.installed)
+
+-- a packet is for the gateway's own address, and its VNI is that of a bound switch
+abbrev pub taken_out : Bytes → Intent → Site → Result (ℕ × ℕ × ℕ × Bytes) PacketFault → List Output
+taken_out g intent site (Err why) = Drop g (No_packet why) ∷ []
+taken_out g intent site (Ok (src, dst, vni, inner)) = if dst == site.ip then arrived g site inner (find (has_network intent vni) site.installed) else Drop g Other_address ∷ []
+
+abbrev pub packet_outputs : Bytes → Intent → Bytes → Option Site → List Output
+packet_outputs g intent bytes None = []
+packet_outputs g intent bytes (Some site) = taken_out g intent site (packet_of bytes)
+
 abbrev pub step : World → Line → World
 step w (Gateway g ip) = record w { sites = maps.insert w.sites g (record { ip = ip; ports = []; installed = [] }) }
 step w (Port g p) = at_gateway w g (λ site. record site { ports = site.ports ++ p ∷ [] })
@@ -172,10 +206,12 @@ step w (Switch s n) = record w { intent = record w.intent { switches = maps.inse
 step w (Bind s b) = record w { intent = record w.intent { bindings = maps.insert w.intent.bindings b s } }
 step w Settle = record w { sites = installed_each w.intent w.sites.list }
 step w (Frame g p bytes) = w
+step w (Underlay g bytes) = w
 
 abbrev pub outputs : World → Line → List Output
 outputs w Settle = Settled ∷ []
 outputs w (Frame g p bytes) = frame_outputs g p bytes (maps.get w.sites g)
+outputs w (Underlay g bytes) = packet_outputs g w.intent bytes (maps.get w.sites g)
 outputs w _ = []
 
 -- ---- the output as text
@@ -190,9 +226,27 @@ frame_kind_text frame_kind.Short = codes "Short"
 frame_kind_text frame_kind.SecondTag = codes "SecondTag"
 frame_kind_text frame_kind.Long = codes "Long"
 
+abbrev pub packet_kind_text : PacketKind → Bytes
+packet_kind_text packet_kind.Short = codes "Short"
+packet_kind_text packet_kind.Version = codes "Version"
+packet_kind_text packet_kind.HeaderLength = codes "HeaderLength"
+packet_kind_text packet_kind.TotalLength = codes "TotalLength"
+packet_kind_text packet_kind.Checksum = codes "Checksum"
+packet_kind_text packet_kind.Fragment = codes "Fragment"
+packet_kind_text packet_kind.Protocol = codes "Protocol"
+packet_kind_text packet_kind.Port = codes "Port"
+packet_kind_text packet_kind.UdpLength = codes "UdpLength"
+packet_kind_text packet_kind.NoVni = codes "NoVni"
+packet_kind_text packet_kind.InnerShort = codes "InnerShort"
+packet_kind_text packet_kind.InnerTag = codes "InnerTag"
+packet_kind_text packet_kind.InnerLong = codes "InnerLong"
+
 abbrev pub reason_words : Reason → List Bytes
 reason_words (No_frame why) = codes " frame " ∷ frame_kind_text why.kind ∷ codes " " ∷ decimal why.offset ∷ codes "\n" ∷ []
 reason_words Unbound = codes " unbound\n" ∷ []
+reason_words (No_packet why) = codes " packet " ∷ packet_kind_text why.kind ∷ codes " " ∷ decimal why.offset ∷ codes "\n" ∷ []
+reason_words Other_address = codes " address\n" ∷ []
+reason_words Unknown_vni = codes " vni\n" ∷ []
 
 abbrev pub output_text : Output → Bytes
 output_text Settled = codes "settled\n"
@@ -201,3 +255,11 @@ output_text (Drop g why) = joined (codes "drop " ∷ g ∷ reason_words why)
 
 abbrev pub outputs_text : List Output → Bytes
 outputs_text os = flat_map output_text os
+
+-- what is shown of a packet: what it says, or why the bytes are none
+abbrev pub shown_packet : Result (ℕ × ℕ × ℕ × Bytes) PacketFault → List Bytes
+shown_packet (Ok (src, dst, vni, inner)) = codes "packet " ∷ ipv4_text src ∷ codes " " ∷ ipv4_text dst ∷ codes " " ∷ decimal vni ∷ codes " " ∷ hex_word inner ∷ codes "\n" ∷ []
+shown_packet (Err why) = codes "refused " ∷ packet_kind_text why.kind ∷ codes " " ∷ decimal why.offset ∷ codes "\n" ∷ []
+
+abbrev pub packet_text : Bytes → Bytes
+packet_text bytes = joined (shown_packet (packet_of bytes))

@@ -23,6 +23,7 @@ pub enum Kind {
     Bind,
     Settle,
     Frame,
+    Underlay,
     End,
 }
 
@@ -51,6 +52,10 @@ pub enum Line {
         port: Name,
         bytes: Bytes,
     },
+    Underlay {
+        gateway: Name,
+        bytes: Bytes,
+    },
 }
 
 /// A line that is run, or the end of the script.
@@ -65,6 +70,8 @@ pub enum Instruction {
 pub enum Form {
     /// `replay`: runs the script that it reads.
     Replay,
+    /// `inspect`: shows the packets that it reads.
+    Inspect,
 }
 
 /// A switch of the intent.

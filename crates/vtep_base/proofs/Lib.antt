@@ -6,3 +6,8 @@ pub mod LongestFront
 pub mod Completed
 pub mod Held
 pub mod Told
+pub mod PairRoom
+pub mod Runs
+pub mod AddressLaws
+pub mod NumberLaws
+pub mod NameLaws

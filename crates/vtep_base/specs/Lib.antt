@@ -1,7 +1,10 @@
+pub mod Addresses
 pub mod Answers
 pub mod Maps
 pub mod Memory
 pub mod NameCells
 pub mod Outside
+pub mod PairCells
 pub mod Reading
+pub mod Refusals
 pub mod Texts

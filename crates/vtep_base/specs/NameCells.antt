@@ -1,8 +1,10 @@
--- How a name is held: its text in the first of 64 cells, and zeros behind it.
-use Rattle.std.specs.Prelude.{◌≡◌, ℕ, ◌-◌, ◌≤◌, List, ◌++◌, length, take, drop, replicate}
+-- How a name is held: its letters in the first of 64 cells, and zeros behind them.
+use Rattle.std.specs.Prelude.{◌≡◌, ℕ, ◌-◌, ◌≤◌, true, List, ◌++◌, length, take, drop, replicate}
 use Rattle.std.proofs.Common.{sym, ap, ◌∙◌, arith}
 use Rattle.std.proofs.lemmas.List.{length-take-le, take-append-drop}
-use Rattle.vtep_base.specs.declared.names.Name.TheInside.{Inside}
+use Rattle.std.specs.List.{list_all}
+use Rattle.vtep_base.specs.Texts.{is_name_byte}
+use Rattle.vtep_base.specs.declared.names.Letters.TheInside.{Inside}
 
 abbrev pub text_of : Inside → List ℕ
 text_of n = take n.len n.text
@@ -10,6 +12,7 @@ text_of n = take n.len n.text
 pub record IsHeld (n : Inside) : Type 0 where
   pub room : length n.text ≡ 64
   pub within : n.len ≤ 64
+  pub bytes : list_all is_name_byte (take n.len n.text) ≡ true
   pub zeros : drop n.len n.text ≡ replicate (64 - n.len) 0
 
 abbrev pub cells_of : List ℕ → Inside

@@ -1,9 +1,13 @@
 -- Texts that are read a byte at a time, and how far bytes begin a text of a form.
-use Rattle.std.specs.Prelude.{ℕ, ◌+◌, ◌<◌, ◌≤◌, List, [], ◌∷◌, ◌++◌, length, take, Option, Some, None, IsSome, Result, Ok, Err}
+use Rattle.std.specs.Prelude.{ℕ, nat_eq, Bool, ◌+◌, ◌<◌, ◌≤◌, List, [], ◌∷◌, ◌++◌, length, take, Option, Some, None, IsSome, Result, Ok, Err}
+use Rattle.std.specs.Cmp.Lexicographic.{pointwise}
 
 -- a text, as its bytes
 abbrev pub Bytes : Type 0
 Bytes = List ℕ
+
+abbrev pub same_bytes : Bytes → Bytes → Bool
+same_bytes = pointwise nat_eq
 
 -- the value, or how many bytes were read
 abbrev pub value_or : {V : Type 0} → ℕ → Option V → Result V ℕ

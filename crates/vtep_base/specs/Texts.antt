@@ -1,5 +1,6 @@
 -- The forms of the text types: what their texts mean, and the one text that is printed.
 use Rattle.std.specs.Prelude.{ℕ, ◌+◌, ◌-◌, ◌*◌, ◌/◌, ◌%◌, ◌^◌, Bool, not, ◌&&◌, ◌||◌, nat_lt, nat_le, ◌==◌, if◌then◌else◌, [], ◌∷◌, ◌++◌, length, Option, Some, None, Result, codes, decimal}
+use Rattle.std.specs.List.{list_all}
 use Rattle.std.specs.Result.{result_ok}
 use Rattle.vtep_base.specs.Reading.{Bytes, read_on}
 use Rattle.vtep_base.specs.declared.numbers.Number.{Number}
@@ -89,3 +90,7 @@ read_name text = read_on name_step name_done 0 [] text
 
 abbrev pub name_of : Bytes → Option Bytes
 name_of text = result_ok (read_name text)
+
+-- the form itself
+abbrev pub is_name : Bytes → Bool
+is_name text = nat_le 1 (length text) && nat_le (length text) 64 && list_all is_name_byte text

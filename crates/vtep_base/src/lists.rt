@@ -1,7 +1,7 @@
 //! Lists, byte strings and texts that contracts see as lists.
 
 ghost use Rattle.std.specs.List.{flat_map};
-ghost use Rattle.std.specs.Prelude.{◌≡◌, ◌==◌, [], ◌∷◌, ◌++◌, length, take, IfOk, OnOk, OnErr};
+ghost use Rattle.std.specs.Prelude.{◌≡◌, ◌==◌, [], ◌∷◌, ◌++◌, length, take, string_bytes, IfOk, OnOk, OnErr};
 
 use crate::answers::OutOfMemory;
 use std::alloc::{AllocError, Global};
@@ -189,38 +189,53 @@ fn append_each(bytes: &mut Vec<u8>, pieces: &[&[u8]]) -> Result<(), AllocError>
     Ok(())
 }
 
-/// A text, seen as its bytes.
+/// A text in UTF-8, seen as its bytes.
 #[derive(Debug, Drop)]
 pub struct Txt {
-    bytes: Vec<u8>,
+    text: String,
 }
 
 impl Model for Txt {
-    ghost use Rattle.std.specs.Prelude.{List as Items, ℕ};
+    ghost use Rattle.std.specs.Prelude.{List as Items, ℕ, string_bytes};
 
     ghost Value = { Items ℕ };
 
-    ghost view = { λ t. t.bytes.items };
+    ghost view = { λ t. string_bytes t.text };
 }
 
 impl Txt {
-    /// The text with these bytes. Takes no memory.
-    pub fn from_vec(bytes: Vec<u8>) -> Txt
-        ensures { result ≡ bytes.items }
+    /// A copy of this text.
+    pub fn from_str(alloc: Global, text: &str) -> Result<Txt, OutOfMemory>
+        ensures { IfOk result (λ copy. copy ≡ text.now) }
     {
-        Txt { bytes }
+        Ok(Txt {
+            text: String::from_str(alloc, text)?,
+        })
     }
 
-    /// The bytes as a vector. Takes no memory.
-    pub fn into_vec(self) -> Vec<u8>
-        ensures { result.items ≡ self }
+    /// This text. Takes no memory.
+    pub fn from_string(text: String) -> Txt
+        ensures { result ≡ string_bytes text }
     {
-        self.bytes
+        Txt { text }
+    }
+
+    /// The text as a string. Takes no memory.
+    pub fn into_string(self) -> String
+        ensures { string_bytes result ≡ self }
+    {
+        self.text
+    }
+
+    pub fn as_str(&self) -> &str
+        ensures { result.now ≡ self.now }
+    {
+        self.text.as_str()
     }
 
     pub fn as_slice(&self) -> &[u8]
         ensures { result.now ≡ self.now }
     {
-        self.bytes.as_slice()
+        self.text.as_bytes()
     }
 }

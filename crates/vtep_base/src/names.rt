@@ -1,10 +1,10 @@
 //! Names.
 
-ghost use Rattle.std.specs.Prelude.{◌≡◌, ◌+◌, ◌≤◌, ◌<◌, ◌↔◌, ◌++◌, IsTrue, MatchResult, IfErr, Ok, Err, OnOk, OnErr, length};
+ghost use Rattle.std.specs.Prelude.{◌≡◌, ◌+◌, ◌≤◌, ◌<◌, ◌↔◌, ◌++◌, IsTrue, true, MatchResult, IfErr, Ok, Err, OnOk, OnErr, length};
 ghost use Rattle.std.specs.Cmp.Lexicographic.{slice_cmp, pointwise};
 ghost use Rattle.std.specs.Ordering.{nat_cmp};
 ghost use Rattle.vtep_base.specs.Reading.{IsLongestFront};
-ghost use Rattle.vtep_base.specs.Texts.{read_name, name_of, is_name_byte};
+ghost use Rattle.vtep_base.specs.Texts.{read_name, name_of, is_name_byte, is_name};
 
 use crate::answers::OutOfMemory;
 use crate::lists::Bytes;
@@ -16,14 +16,14 @@ use std::marker::Model;
 /// The most bytes that a name has.
 const ROOM: usize = 64;
 
-/// A name: 1 to 64 letters, digits, `_`, `-` and `.`. It is held in place, and contracts see it as its text.
+/// The letters of a name as far as they are read, held in place.
 #[derive(Clone, Copy)]
-pub struct Name {
+pub struct Letters {
     text: [u8; 64],
     len: u8,
 }
 
-impl Model for Name {
+impl Model for Letters {
     ghost use Rattle.std.specs.Prelude.{ℕ, List};
     ghost use Rattle.vtep_base.specs.NameCells.{text_of, cells_of, IsHeld, cells_of-text_of};
 
@@ -38,13 +38,42 @@ impl Model for Name {
     ghost inverse_ok = { cells_of-text_of };
 }
 
+/// A name: 1 to 64 letters, digits, `_`, `-` and `.`. It is held in place, and contracts see it as its text.
+#[derive(Clone, Copy)]
+pub struct Name {
+    letters: Letters,
+}
+
+impl Model for Name {
+    ghost use Rattle.std.specs.Prelude.{ℕ, List, ◌≡◌, true};
+    ghost use Rattle.vtep_base.specs.Texts.{is_name};
+
+    ghost Value = { List ℕ };
+
+    ghost view = { λ n. n.letters };
+
+    ghost invariant = { λ n. is_name n.letters ≡ true };
+
+    ghost inverse = { λ text. record { letters = text } };
+}
+
+impl Letters {
+    fn as_slice(&self) -> &[u8]
+        ensures text { result.now ≡ self.now }
+        ensures short { length result.now ≤ 64 }
+    {
+        &self.text[..self.len as usize]
+    }
+}
+
 impl Name {
     /// The text of the name.
     pub fn as_slice(&self) -> &[u8]
         ensures text { result.now ≡ self.now }
         ensures short { length result.now ≤ 64 }
+        ensures form { is_name result.now ≡ true }
     {
-        &self.text[..self.len as usize]
+        self.letters.as_slice()
     }
 
     /// Reads a name.
@@ -52,7 +81,7 @@ impl Name {
         ensures value { MatchResult result (λ n. read_name text.now ≡ Ok n) (λ f. read_name text.now ≡ Err f.offset) }
         ensures longest { IfErr result (λ f. IsLongestFront name_of text.now f.offset) }
     {
-        let front = Name {
+        let front = Letters {
             text: [0; 64],
             len: 0,
         };
@@ -140,7 +169,7 @@ fn is_name_byte(byte: u8) -> bool
     byte.is_ascii_alphanumeric() || matches!(byte, b'_' | b'-' | b'.')
 }
 
-impl Front for Name {
+impl Front for Letters {
     ghost use Rattle.vtep_base.specs.Texts.{name_step, name_done};
 
     type Value = Name;
@@ -149,19 +178,23 @@ impl Front for Name {
 
     ghost done = { name_done };
 
-    fn step(self, byte: u8) -> Option<Name> {
+    fn step(self, byte: u8) -> Option<Letters> {
         if !is_name_byte(byte) || self.len as usize == ROOM {
             return None;
         }
         let mut text = self.text;
         text[self.len as usize] = byte;
-        Some(Name {
+        Some(Letters {
             text,
             len: self.len + 1,
         })
     }
 
     fn done(self) -> Option<Name> {
-        if self.len == 0 { None } else { Some(self) }
+        if self.len == 0 {
+            None
+        } else {
+            Some(Name { letters: self })
+        }
     }
 }

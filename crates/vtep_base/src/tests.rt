@@ -58,6 +58,32 @@ fn parses_addresses(rt: HostRuntime) -> Result<(), Fail> {
 }
 
 #[test]
+fn parses_ethernet_addresses(rt: HostRuntime) -> Result<(), Fail> {
+    let cases: [(&[u8], Result<[u8; 6], usize>); 12] = [
+        (b"00:00:00:00:00:00", Ok([0; 6])),
+        (b"02:aB:cD:Ef:09:7f", Ok([2, 0xab, 0xcd, 0xef, 9, 0x7f])),
+        (b"FF:FF:FF:FF:FF:FF", Ok([0xff; 6])),
+        (b"", Err(0)),
+        (b":0:00:00:00:00:00", Err(0)),
+        (b"2:00:00:00:00:01", Err(1)),
+        (b"02-00-00-00-00-01", Err(2)),
+        (b"020000000001", Err(2)),
+        (b"02:0g:00:00:00:01", Err(4)),
+        (b"02:00:00:00:01", Err(14)),
+        (b"02:00:00:00:00:0", Err(16)),
+        (b"02:00:00:00:00:01:02", Err(17)),
+    ];
+    for (text, wanted) in &cases {
+        let found = Mac::parse(text).map(|m| m.bytes()).map_err(|f| f.offset);
+        assert_eq!(rt; found, *wanted);
+    }
+    assert!(rt; Mac::from_bytes([3, 0, 0, 0, 0, 0]).is_group());
+    assert!(rt; !Mac::from_bytes([2, 0xff, 0xff, 0xff, 0xff, 0xff]).is_group());
+    assert!(rt; Mac::from_bytes([0, 0, 0, 0, 1, 0]) > Mac::from_bytes([0, 0, 0, 0, 0, 0xff]));
+    Ok(())
+}
+
+#[test]
 fn parses_names(rt: HostRuntime) -> Result<(), Fail> {
     let longest = [b'a'; 64];
     let long = [b'a'; 65];
@@ -80,6 +106,22 @@ fn parses_names(rt: HostRuntime) -> Result<(), Fail> {
 }
 
 #[test]
+fn words_of_refusal(rt: HostRuntime) -> Result<(), Fail> {
+    let cases: [(Word, &[u8]); 3] = [
+        (Word::SyntaxError, b"syntax error"),
+        (
+            Word::ReferentialIntegrityViolation,
+            b"referential integrity violation",
+        ),
+        (Word::UnknownMethod, b"unknown method"),
+    ];
+    for (word, wanted) in &cases {
+        assert_eq!(rt; word.text(), *wanted);
+    }
+    Ok(())
+}
+
+#[test]
 fn prints(rt: HostRuntime) -> Result<(), Fail> {
     let mut out = Bytes::new(rt.alloc());
     Ipv4::from_bits(0x0a0000ff).print(&mut out)?;
@@ -89,12 +131,23 @@ fn prints(rt: HostRuntime) -> Result<(), Fail> {
     Vlan::new(0).print(&mut out)?;
     out.append(b" ")?;
     Name::parse(b"g1")?.print(&mut out)?;
+    out.push(b' ')?;
+    Mac::parse(b"02:aB:Cd:00:9f:f0")?.print(&mut out)?;
     out.append_all(&[b" ".as_slice(), b"end".as_slice()])?;
-    assert_eq!(rt; out.as_slice(), b"10.0.0.255 16777215 0 g1 end".as_slice());
+    assert_eq!(rt;
+        out.as_slice(),
+        b"10.0.0.255 16777215 0 g1 02:ab:cd:00:9f:f0 end".as_slice()
+    );
     let copy = Bytes::from_slice(rt.alloc(), out.as_slice())?;
-    assert_eq!(rt; copy.len(), 28);
-    let text = Txt::from_vec(copy.into_vec());
-    assert_eq!(rt; text.as_slice().len(), 28);
+    assert_eq!(rt; copy.len(), 46);
+    let text = Txt::from_string(String::from_utf8(copy.into_vec())?);
+    assert_eq!(rt; text.as_slice().len(), 46);
+    assert_eq!(rt;
+        Txt::from_str(rt.alloc(), text.as_str())?
+            .into_string()
+            .len(),
+        46
+    );
     let mut list = List::new(rt.alloc());
     list.push(7u64)?;
     list.push(9)?;

@@ -2,15 +2,17 @@ use Rattle.std.proofs.Common.{map, sym, ap, ◌∙◌}
 use Rattle.std.specs.String.{string_bytes}
 use Rattle.fabric_world.specs.Script.{form_of}
 use Rattle.fabric_world.proofs.DeliveryLaw.{delivers_installed}
-use Rattle.fabric_replay.proofs.Completes.{completes}
+use Rattle.fabric_replay.proofs.Completes.{completes_asked}
 use Rattle.fabric_replay.proofs.Ends.{ends_usage}
 use Rattle.fabric_replay.proofs.replay.run.Goals as goal
 
-pub returns-in-Some-Replay-clause-complete : goal.returns-in-Some-Replay-clause-complete
-returns-in-Some-Replay-clause-complete g c form = completes _ _ _ _ c.replay.result c.replay.ensures
+pub returns-in-Some-clause-complete : goal.returns-in-Some-clause-complete
+returns-in-Some-clause-complete g c form =
+    completes_asked (form_of (map string_bytes c.args.words.now.items)) c.in-Some.form form _ _ _ _ c.run_text.result
+    (ap (λ w. form_of (map string_bytes w)) (sym c.as_slice.ensures.value) ∙ sym c.form_of.ensures ∙ c.in-Some.is) c.run_text.ensures
 
-pub returns-in-Some-Replay-clause-delivers : goal.returns-in-Some-Replay-clause-delivers
-returns-in-Some-Replay-clause-delivers g c = delivers_installed
+pub returns-in-Some-clause-delivers : goal.returns-in-Some-clause-delivers
+returns-in-Some-clause-delivers g c = delivers_installed
 
 pub returns-in-None-clause-ran : goal.returns-in-None-clause-ran
 returns-in-None-clause-ran g c = ends_usage (form_of (map string_bytes c.args.words.now.items)) _ _ _ c.usage.result (ap (λ w. form_of (map string_bytes w)) (sym c.as_slice.ensures.value) ∙ sym c.form_of.ensures ∙ c.in-None.is) c.usage.ensures

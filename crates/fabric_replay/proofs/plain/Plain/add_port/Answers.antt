@@ -1,6 +1,6 @@
 use Rattle.std.proofs.Common.{◌≡◌, false, refl, sym, ◌∙◌, arith}
 use Rattle.std.specs.List.{list_any}
-use Rattle.fabric_world.specs.Lines.{same_bytes}
+use Rattle.vtep_base.specs.Reading.{same_bytes}
 use Rattle.fabric_replay.proofs.PlainLemmas.{port_runs, same_site}
 use Rattle.fabric_replay.proofs.plain.Plain.add_port.Goals as goal
 

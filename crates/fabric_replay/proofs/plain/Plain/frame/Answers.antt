@@ -1,6 +1,6 @@
 use Rattle.std.proofs.Common.{◌≡◌, true, ◌++◌, sym, ap, ◌∙◌}
 use Rattle.std.specs.List.{list_any}
-use Rattle.fabric_world.specs.Lines.{same_bytes}
+use Rattle.vtep_base.specs.Reading.{same_bytes}
 use Rattle.fabric_world.specs.World.{outputs_text, entered}
 use Rattle.fabric_replay.specs.PlainWorld.{site_of}
 use Rattle.fabric_replay.proofs.PlainLemmas.{frame_runs}

@@ -1,0 +1,5 @@
+mod JsonLists
+mod Ids
+mod InOrder
+mod ReadBack
+mod Worked

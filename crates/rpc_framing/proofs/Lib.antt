@@ -1,0 +1,7 @@
+mod Scanned
+mod Readings
+mod Held
+pub mod Kept
+pub mod Texts
+pub mod Worked
+pub mod Divided

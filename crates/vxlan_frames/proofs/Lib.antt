@@ -1,0 +1,7 @@
+mod Answered
+mod Parts
+mod Passing
+mod Places
+mod Sums
+mod Worked
+mod Written
