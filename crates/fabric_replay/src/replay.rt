@@ -19,7 +19,7 @@ use vtep_base::{Bytes, LineReason, OutOfMemory, Put, Sink, Source, Status, Took}
 const MOST: usize = 1 << 28;
 
 /// The most bytes that are taken at once.
-const PIECE: usize = 1 << 16;
+const PIECE: usize = 1 << 12;
 
 /// How the program is called.
 const USAGE: &[u8] =

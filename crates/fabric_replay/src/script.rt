@@ -101,19 +101,13 @@ impl State {
         if is_skipped(words.as_slice()) {
             self.number += 1;
         } else if let Some(column) = bad_byte(line) {
-            self.place = Place::Stopped(Refusal {
-                column,
-                reason: LineReason::Byte,
-            });
+            self.refuse(column, LineReason::Byte);
         } else if is_opening(words.as_slice()) {
             self.place = Place::Going;
             self.number += 1;
             self.world = Plain::new(alloc);
         } else {
-            self.place = Place::Stopped(Refusal {
-                column: 1,
-                reason: LineReason::First,
-            });
+            self.refuse(1, LineReason::First);
         }
         Ok(())
     }

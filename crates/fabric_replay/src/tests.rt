@@ -83,95 +83,221 @@ fn refuses(rt: &impl Abort, alloc: Global, cases: &[(&[u8], &[u8])]) -> Result<(
 }
 
 #[test]
-fn refuses_bytes_and_commands(rt: HostRuntime) -> Result<(), Fail> {
-    let cases: [(&[u8], &[u8]); 11] = [
+fn refuses_bytes(rt: HostRuntime) -> Result<(), Fail> {
+    let cases: [(&[u8], &[u8]); 22] = [
+        (b"\t", b"1 byte"),
         (b"\tsettle", b"1 byte"),
+        (b"settle\t# noted", b"7 byte"),
         (b"settle\x7f", b"7 byte"),
         (b"settle \x80", b"8 byte"),
+        (b"   \xff", b"4 byte"),
         (b" \x00settle", b"2 byte"),
+        (b"\rsettle", b"1 byte"),
+        (b"set\rtle", b"4 byte"),
+        (b"settle\r\r", b"7 byte"),
         (b"bogus \x1f", b"7 byte"),
+        (b"\x7fgateway g2 10.0.0.2", b"1 byte"),
+        (b"gateway g2 10.0.0.2\t", b"20 byte"),
+        (b"port g1\tp2", b"8 byte"),
+        (b"port g1 p2 \x7f", b"12 byte"),
+        (b"switch blue 5 source\x80", b"21 byte"),
+        (b"\x80bind red g1 p1 0", b"1 byte"),
+        (b"bind red g1 p1 0\x7f", b"17 byte"),
+        (b"\x01frame g1 p1 \xc3", b"1 byte"),
         (b"frame g1 p1 \xc3", b"13 byte"),
+        (b"underlay g1 00\x7f", b"15 byte"),
+        (b"end\x80", b"4 byte"),
+    ];
+    refuses(&rt, rt.alloc(), &cases)
+}
+
+#[test]
+fn refuses_commands(rt: HostRuntime) -> Result<(), Fail> {
+    let cases: [(&[u8], &[u8]); 10] = [
         (b"fabric 1", b"1 command"),
+        (b"  fabric", b"3 command"),
         (b"settl", b"1 command"),
         (b"  settles", b"3 command"),
         (b"Settle", b"1 command"),
+        (b"-", b"1 command"),
         (b"end-", b"1 command"),
+        (b"gateway# g2 10.0.0.2", b"1 command"),
+        (b"  ports g1 p2", b"3 command"),
+        (b"underlay- g1 0 0", b"1 command"),
     ];
     refuses(&rt, rt.alloc(), &cases)
 }
 
 #[test]
-fn refuses_counts_of_words(rt: HostRuntime) -> Result<(), Fail> {
-    let cases: [(&[u8], &[u8]); 20] = [
-        (b"settle now", b"8 words"),
-        (b" settle  now", b"10 words"),
+fn refuses_missing_words(rt: HostRuntime) -> Result<(), Fail> {
+    let cases: [(&[u8], &[u8]); 19] = [
         (b"gateway", b"8 words"),
         (b" gateway  ", b"9 words"),
         (b"gateway g2", b"11 words"),
-        (b"gateway g2 10.0.0.2 x", b"21 words"),
-        (b"gateway ? ? ?", b"13 words"),
         (b"port", b"5 words"),
         (b"port g1", b"8 words"),
-        (b"port g1 p2 p3", b"12 words"),
+        (b"port  g1 ", b"9 words"),
+        (b"switch", b"7 words"),
         (b"switch blue", b"12 words"),
         (b"switch blue 5", b"14 words"),
-        (b"switch blue 5 source x", b"22 words"),
+        (b"switch ? ?", b"11 words"),
+        (b"bind", b"5 words"),
+        (b"bind red", b"9 words"),
         (b"bind red g1", b"12 words"),
         (b"bind red g1 p1", b"15 words"),
-        (b"bind red g1 p1 0 0", b"18 words"),
         (b"frame", b"6 words"),
+        (b" frame g1", b"10 words"),
         (b"frame g1 p1", b"12 words"),
-        (b"frame g1 p1 - -", b"15 words"),
-        (b"end now", b"5 words"),
+        (b"underlay", b"9 words"),
+        (b"underlay g1", b"12 words"),
     ];
     refuses(&rt, rt.alloc(), &cases)
 }
 
 #[test]
-fn refuses_values(rt: HostRuntime) -> Result<(), Fail> {
-    let cases: [(&[u8], &[u8]); 24] = [
+fn refuses_surplus_words(rt: HostRuntime) -> Result<(), Fail> {
+    let cases: [(&[u8], &[u8]); 14] = [
+        (b"settle now", b"8 words"),
+        (b" settle  now", b"10 words"),
+        (b"settle settle settle", b"8 words"),
+        (b"gateway g2 10.0.0.2 x", b"21 words"),
+        (b"gateway ? ? ?", b"13 words"),
+        (b"gateway ? ? ?   ?", b"13 words"),
+        (b"port g1 p2 p3", b"12 words"),
+        (b"port ? ?   ?", b"12 words"),
+        (b"switch blue 5 source x", b"22 words"),
+        (b"bind red g1 p1 0 0", b"18 words"),
+        (b"frame g1 p1 - -", b"15 words"),
+        (b"underlay g1 - -", b"15 words"),
+        (b"end now", b"5 words"),
+        (b"  end   #", b"9 words"),
+    ];
+    refuses(&rt, rt.alloc(), &cases)
+}
+
+#[test]
+fn refuses_names(rt: HostRuntime) -> Result<(), Fail> {
+    let cases: [(&[u8], &[u8]); 22] = [
         (b"gateway g/2 10.0.0.2", b"9 value"),
-        (b"gateway g2 10.0.0.256", b"12 value"),
-        (b"gateway g2 -", b"12 value"),
         (b"gateway g/2 10.0.0.256", b"9 value"),
+        (
+            b"gateway aaaaaaaaaaaaaaaaaaaaaaaaaaaaaaaaaaaaaaaaaaaaaaaaaaaaaaaaaaaaaaaaa 10.0.0.2",
+            b"9 value",
+        ),
+        (
+            b"gateway aaaaaaaaaaaaaaaaaaaaaaaaaaaaaaaaaaaaaaaaaaaaaaaaaaaaaaaaaaaaaaaa 10.0.0.2",
+            b"1 limit",
+        ),
         (b"port g/1 p2", b"6 value"),
         (b"port g1 p#", b"9 value"),
         (
             b"port aaaaaaaaaaaaaaaaaaaaaaaaaaaaaaaaaaaaaaaaaaaaaaaaaaaaaaaaaaaaaaaaa p2",
             b"6 value",
         ),
+        (
+            b"port aaaaaaaaaaaaaaaaaaaaaaaaaaaaaaaaaaaaaaaaaaaaaaaaaaaaaaaaaaaaaaaa p2",
+            b"6 unknown",
+        ),
+        (
+            b"port g1 aaaaaaaaaaaaaaaaaaaaaaaaaaaaaaaaaaaaaaaaaaaaaaaaaaaaaaaaaaaaaaaaa",
+            b"9 value",
+        ),
         (b"switch b!ue 5 source", b"8 value"),
-        (b"switch blue 16777216 source", b"13 value"),
-        (b"switch blue 007 source", b"13 value"),
-        (b"switch blue 5 Source", b"15 value"),
-        (b"switch blue -1 sources", b"13 value"),
+        (
+            b"switch aaaaaaaaaaaaaaaaaaaaaaaaaaaaaaaaaaaaaaaaaaaaaaaaaaaaaaaaaaaaaaaaa 100 source",
+            b"8 value",
+        ),
+        (
+            b"switch aaaaaaaaaaaaaaaaaaaaaaaaaaaaaaaaaaaaaaaaaaaaaaaaaaaaaaaaaaaaaaaa 100 source",
+            b"73 repeated",
+        ),
         (b"bind r=d g1 p1 0", b"6 value"),
         (b"bind red g+ p1 0", b"10 value"),
         (b"bind red g1 p+ 0", b"13 value"),
+        (
+            b"bind aaaaaaaaaaaaaaaaaaaaaaaaaaaaaaaaaaaaaaaaaaaaaaaaaaaaaaaaaaaaaaaa g1 p1 0",
+            b"6 unknown",
+        ),
+        (b"frame g/1 p1 zz", b"7 value"),
+        (b"frame g1 p:1 zz", b"10 value"),
+        (
+            b"frame g1 aaaaaaaaaaaaaaaaaaaaaaaaaaaaaaaaaaaaaaaaaaaaaaaaaaaaaaaaaaaaaaaaa 00",
+            b"10 value",
+        ),
+        (
+            b"frame g1 aaaaaaaaaaaaaaaaaaaaaaaaaaaaaaaaaaaaaaaaaaaaaaaaaaaaaaaaaaaaaaaa 00",
+            b"10 unknown",
+        ),
+        (b"underlay g@1 zz", b"10 value"),
+        (
+            b"underlay aaaaaaaaaaaaaaaaaaaaaaaaaaaaaaaaaaaaaaaaaaaaaaaaaaaaaaaaaaaaaaaaa 00",
+            b"10 value",
+        ),
+    ];
+    refuses(&rt, rt.alloc(), &cases)
+}
+
+#[test]
+fn refuses_numbers(rt: HostRuntime) -> Result<(), Fail> {
+    let cases: [(&[u8], &[u8]); 22] = [
+        (b"gateway g2 10.0.0.256", b"12 value"),
+        (b"gateway g2 256.0.0.1", b"12 value"),
+        (b"gateway g2 10.0.0.01", b"12 value"),
+        (b"gateway g2 00.0.0.1", b"12 value"),
+        (b"gateway g2 10.0.0", b"12 value"),
+        (b"gateway g2 10.0.0.1.1", b"12 value"),
+        (b"gateway g2 10.0.0.", b"12 value"),
+        (b"gateway g2 -", b"12 value"),
+        (b"switch blue 16777216 source", b"13 value"),
+        (b"switch blue 18446744073709551616 source", b"13 value"),
+        (b"switch blue 007 source", b"13 value"),
+        (b"switch blue 00 source", b"13 value"),
+        (b"switch blue +5 source", b"13 value"),
+        (b"switch blue -1 sources", b"13 value"),
+        (b"switch blue 16777215 service", b"1 use"),
         (b"bind red g1 p1 4096", b"16 value"),
+        (b"bind red g1 p1 65536", b"16 value"),
         (b"bind red g1 p1 07", b"16 value"),
+        (b"bind red g1 p1 00", b"16 value"),
+        (b"bind red g1 p1 0x7", b"16 value"),
         (b"bind red g1 p1 -", b"16 value"),
+        (b"bind blue g1 p1 4095", b"6 unknown"),
+    ];
+    refuses(&rt, rt.alloc(), &cases)
+}
+
+#[test]
+fn refuses_other_words(rt: HostRuntime) -> Result<(), Fail> {
+    let cases: [(&[u8], &[u8]); 16] = [
+        (b"switch blue 5 Source", b"15 value"),
+        (b"switch blue 5 source_node", b"15 value"),
+        (b"switch blue 5 servic", b"15 value"),
+        (b"switch blue 5 -", b"15 value"),
+        (b"frame g1 p1 0", b"13 value"),
         (b"frame g1 p1 abc", b"13 value"),
         (b"frame g1 p1 zz", b"13 value"),
+        (b"frame g1 p1 0g", b"13 value"),
         (b"frame g1 p1 0x00", b"13 value"),
         (b"frame g1 p1 --", b"13 value"),
-        (b"frame g/1 p1 zz", b"7 value"),
+        (b"frame g1 p1 -0", b"13 value"),
         (b"frame g1 p2 zz", b"13 value"),
+        (b"underlay g1 0", b"13 value"),
+        (b"underlay g1 g0", b"13 value"),
+        (b"underlay g1 0-", b"13 value"),
+        (b"underlay g9 ::", b"13 value"),
     ];
     refuses(&rt, rt.alloc(), &cases)
 }
 
 #[test]
 fn refuses_lines_that_do_not_fit(rt: HostRuntime) -> Result<(), Fail> {
-    let cases: [(&[u8], &[u8]); 19] = [
+    let cases: [(&[u8], &[u8]); 23] = [
         (b"gateway g1 10.0.0.9", b"9 repeated"),
         (b"gateway g2 10.0.0.1", b"12 repeated"),
         (b"gateway g1 10.0.0.1", b"9 repeated"),
+        (b"gateway g2 10.0.0.2", b"1 limit"),
+        (b"  gateway g2 10.0.0.2", b"3 limit"),
         (b"port g2 p1", b"6 unknown"),
-        (
-            b"port aaaaaaaaaaaaaaaaaaaaaaaaaaaaaaaaaaaaaaaaaaaaaaaaaaaaaaaaaaaaaaaa p2",
-            b"6 unknown",
-        ),
         (b"port g1 p1", b"9 repeated"),
         (b"switch red 5 source", b"8 repeated"),
         (b"switch blue 100 source", b"13 repeated"),
@@ -186,29 +312,66 @@ fn refuses_lines_that_do_not_fit(rt: HostRuntime) -> Result<(), Fail> {
         (b"frame g2 p1 00", b"7 unknown"),
         (b"frame - p1 00", b"7 unknown"),
         (b"frame g1 p2 00", b"10 unknown"),
+        (b"frame  g1  p2 -", b"12 unknown"),
+        (b"underlay g9 00", b"10 unknown"),
+        (b"  underlay -  -", b"12 unknown"),
     ];
     refuses(&rt, rt.alloc(), &cases)
 }
 
+/// Compares what whole scripts write, and how they end.
+fn answers(rt: &impl Abort, alloc: Global, cases: &[(&[u8], u8, &[u8])]) -> Result<(), Fail> {
+    for (script, wanted_status, wanted) in cases {
+        let (status, written) = replayed(alloc, script)?;
+        assert_eq!(rt; written.as_slice(), *wanted);
+        assert_eq!(rt; status, *wanted_status);
+    }
+    Ok(())
+}
+
 #[test]
-fn runs_scripts(rt: HostRuntime) -> Result<(), Fail> {
-    let cases: [(&[u8], u8, &[u8]); 22] = [
+fn looks_for_the_opening(rt: HostRuntime) -> Result<(), Fail> {
+    let cases: [(&[u8], u8, &[u8]); 20] = [
         (b"", 3, b"refused 1 1 first\n"),
+        (b"\n", 3, b"refused 2 1 first\n"),
+        (b" ", 3, b"refused 2 1 first\n"),
         (b" \n#x\n  # y\n", 3, b"refused 4 1 first\n"),
         (b"\r\n", 3, b"refused 2 1 first\n"),
         (b"\r", 3, b"refused 1 1 byte\n"),
         (b"\0\n", 3, b"refused 1 1 byte\n"),
+        (b"\tfabric 1\nend\n", 3, b"refused 1 1 byte\n"),
+        (b"fabric 1\x7f\nend\n", 3, b"refused 1 9 byte\n"),
+        (b"\n\nfabric 2 \x80\nend\n", 3, b"refused 3 10 byte\n"),
+        (b"fabric\nend\n", 3, b"refused 1 1 first\n"),
         (b"fabric 2\nend\n", 3, b"refused 1 1 first\n"),
+        (b"  fabric 2\nend\n", 3, b"refused 1 1 first\n"),
+        (b"fabric 01\nend\n", 3, b"refused 1 1 first\n"),
         (b"fabric 1 1\nend\n", 3, b"refused 1 1 first\n"),
+        (b"fabric 1 #\nend\n", 3, b"refused 1 1 first\n"),
+        (b"Fabric 1\nend\n", 3, b"refused 1 1 first\n"),
         (b" settle\nfabric 1\n", 3, b"refused 1 1 first\n"),
+        (b"end\n", 3, b"refused 1 1 first\n"),
+        (b"# \xff\x00\r\n  fabric   1  \r\nend", 0, b""),
+    ];
+    answers(&rt, rt.alloc(), &cases)
+}
+
+#[test]
+fn looks_for_the_end(rt: HostRuntime) -> Result<(), Fail> {
+    let cases: [(&[u8], u8, &[u8]); 15] = [
         (b"fabric 1\n", 3, b"refused 2 1 end\n"),
         (b"fabric 1", 3, b"refused 2 1 end\n"),
+        (b"fabric 1\n   ", 3, b"refused 3 1 end\n"),
         (b"fabric 1\nend", 0, b""),
+        (b"fabric 1\n  end  ", 0, b""),
         (b"fabric 1\nend\nend\n", 0, b""),
         (b"fabric 1\nend\n\xff\n", 0, b""),
-        (b"  fabric   1  \r\nsettle\r\nend\r\n", 0, b"settled\n"),
+        (b"fabric 1\nend\nport", 0, b""),
+        (b"fabric 1\r\nsettle\r\nend\r\n", 0, b"settled\n"),
         (b"fabric 1\n\r\r\nend\n", 3, b"refused 2 1 byte\n"),
         (b"fabric 1\nend\r", 3, b"refused 2 4 byte\n"),
+        (b"fabric 1\nsettle", 3, b"settled\nrefused 3 1 end\n"),
+        (b"fabric 1\nsettle\r", 3, b"refused 2 7 byte\n"),
         (
             b"#\x01\nfabric 1\n#\n\n  #\nsettle\n",
             3,
@@ -219,6 +382,13 @@ fn runs_scripts(rt: HostRuntime) -> Result<(), Fail> {
             3,
             b"settled\nrefused 3 8 words\n",
         ),
+    ];
+    answers(&rt, rt.alloc(), &cases)
+}
+
+#[test]
+fn drops_frames(rt: HostRuntime) -> Result<(), Fail> {
+    let cases: [(&[u8], u8, &[u8]); 4] = [
         (
             b"fabric 1\ngateway g1 10.0.0.1\nport g1 p1\nframe g1 p1 -\nend\n",
             0,
@@ -240,12 +410,7 @@ fn runs_scripts(rt: HostRuntime) -> Result<(), Fail> {
             b"drop g1 unbound\n",
         ),
     ];
-    for (script, wanted_status, wanted) in &cases {
-        let (status, written) = replayed(rt.alloc(), script)?;
-        assert_eq!(rt; written.as_slice(), *wanted);
-        assert_eq!(rt; status, *wanted_status);
-    }
-    Ok(())
+    answers(&rt, rt.alloc(), &cases)
 }
 
 #[test]
@@ -414,19 +579,6 @@ fn takes_packets(rt: HostRuntime) -> Result<(), Fail> {
         let (status, written) = ran(rt.alloc(), &["replay"], &pieces, &[], &[])?;
         assert_eq!(rt; written.as_slice(), output.as_slice());
         assert_eq!(rt; status, 0);
-    }
-    let lines: [(&[u8], &[u8]); 3] = [
-        (b"underlay g9 00", b"10 unknown"),
-        (b"underlay g1", b"12 words"),
-        (b"underlay g1 0", b"13 value"),
-    ];
-    for (line, wanted) in &lines {
-        let pieces = [START, *line, b"\nend\n".as_slice()];
-        let (status, written) = ran(rt.alloc(), &["replay"], &pieces, &[], &[])?;
-        let mut output = Bytes::from_slice(rt.alloc(), b"refused 6 ")?;
-        output.append_all(&[*wanted, b"\n"])?;
-        assert_eq!(rt; written.as_slice(), output.as_slice());
-        assert_eq!(rt; status, 3);
     }
     Ok(())
 }

@@ -12,7 +12,7 @@ invariant-piece g l = record {
       (record { written = g.K.Sink.written l.fn.sink; faults = g.K.Sink.faults l.fn.sink })
       (record { written = g.K.Sink.written l.sink; faults = g.K.Sink.faults l.sink })
       (stage_of l.script.state) l.script.front.items l.script.state.number l.left;
-  room : length l.buffer.items ≡ 65536;
+  room : length l.buffer.items ≡ 4096;
 }
 
 abbrev pub decreases-piece : goal.decreases-piece
