@@ -1,5 +1,6 @@
 pub mod WordsLemmas
 pub mod PlainLemmas
+pub mod SessionLemmas
 pub mod LinesOfPieces
 mod Ends
 mod SoFar

@@ -8,20 +8,36 @@ use Rattle.vtep_base.specs.declared.bindings.Binding.{Binding}
 use Rattle.vtep_base.specs.Reading.{same_bytes}
 use Rattle.fabric_world.specs.declared.Line.{Line}
 use Rattle.fabric_world.specs.declared.Fault.{Fault}
+use Rattle.fabric_world.specs.declared.Fault.TheVariants.{Unknown}
+use Rattle.vtep_gateway.specs.Gateway as vtep
+use Rattle.vtep_gateway.specs.Gateway.{Held}
+use Rattle.vtep_gateway.specs.Moves as moves
+use Rattle.vtep_gateway.specs.declared.Answer.{Answer}
+use Rattle.vtep_gateway.specs.declared.Event.{Event}
+use Rattle.vtep_gateway.specs.declared.EventRefused.{EventRefused}
 use Rattle.fabric_world.specs.World.{World, Site, bytes_cmp, fault, step, outputs, outputs_text}
 use Rattle.fabric_replay.specs.declared.plain.Plain.{Plain}
 
 abbrev pub site_of : Plain → Site
 site_of p = record { ip = p.ip; ports = p.ports.items; installed = p.installed.items }
 
+-- what stands for the one gateway, once it has a name
+abbrev pub only : {X : Type 0} → Option Bytes → X → Map bytes_cmp X
+only None x = maps.empty
+only (Some g) x = maps.insert maps.empty g x
+
 abbrev pub sites_of : Plain → Option Bytes → Map bytes_cmp Site
-sites_of p None = maps.empty
-sites_of p (Some g) = maps.insert maps.empty g (site_of p)
+sites_of p name = only name (site_of p)
+
+abbrev pub gateways_of : Option Bytes → Option Held → Map bytes_cmp vtep.Gateway
+gateways_of name None = maps.empty
+gateways_of name (Some h) = only name h.state
 
 abbrev pub world_of : Plain → World
 world_of p = record {
   limits = record { gateways = 1; ports = 64; switches = 1024 };
   sites = sites_of p p.name;
+  gateways = gateways_of p.name p.gateway;
   intent = record { switches = maps.of_list p.switches.entries; bindings = maps.of_list p.bindings.entries };
 }
 
@@ -33,3 +49,15 @@ Runs old new before after line answer =
 
 abbrev pub is_wanted : List Bytes → Bytes → Binding → Bool
 is_wanted ports g b = same_bytes g b.gateway && list_any (λ q. same_bytes q b.port) ports
+
+-- the gateway took an event
+pub record Answered (old new : Plain) (e : Event) (a : Answer) : Type 0 where
+  pub before : Held
+  pub after : Held
+  pub was : old.gateway ≡ Some before
+  pub becomes : new ≡ record old { gateway = Some after }
+  pub stepped : moves.step before.state e ≡ record { gateway = after.state; answer = a }
+
+abbrev pub no_session : Option EventRefused → Option Fault
+no_session None = None
+no_session (Some why) = Some (Unknown 2)

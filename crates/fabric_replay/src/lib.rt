@@ -5,6 +5,7 @@ mod lines;
 mod plain;
 mod replay;
 mod script;
+mod sessions;
 mod words;
 
 pub use crate::replay::run;

@@ -2,7 +2,7 @@
 
 ghost use Rattle.std.specs.Prelude.{◌≡◌, ◌≤◌, ◌<◌, map, Ok, Err, None, Some, MatchResult, IfOk, length, slice_get};
 ghost use Rattle.vtep_base.specs.Texts.{name_of, ipv4_of, vni_of, vlan_of};
-ghost use Rattle.fabric_world.specs.Lines.{kind_of, kind_text, arity, mode_of, hex_of, value_at, word_at, column_at, last_end, counted, instruction, read_words, read_line, first_word, known_kind, only_word, read_packet};
+ghost use Rattle.fabric_world.specs.Lines.{kind_of, kind_text, arity, mode_of, session_of, hex_of, value_at, word_at, column_at, last_end, counted, instruction, read_words, read_line, first_word, known_kind, only_word, read_packet};
 ghost use Rattle.fabric_world.specs.Text as text;
 ghost use Rattle.fabric_replay.specs.Seen.{seen, Reads, AllFit};
 
@@ -10,7 +10,9 @@ use crate::words::{Word, bad_byte};
 use fabric_world::{Instruction, Kind, Line, Network, Refusal};
 use hex::FromHexError;
 use std::alloc::Global;
-use vtep_base::{Binding, Bytes, Ipv4, LineReason, Mode, Name, OutOfMemory, Vlan, Vni};
+use vtep_base::{
+    Binding, Bytes, Ipv4, LineReason, Mode, Name, OutOfMemory, Vlan, Vni, parse_number,
+};
 
 /// Why a line is not read.
 #[derive(Clone, Copy, Debug)]
@@ -48,7 +50,7 @@ fn refusal(column: usize, reason: LineReason) -> Refusal
 }
 
 /// All kinds of lines.
-const KINDS: [Kind; 8] = [
+const KINDS: [Kind; 10] = [
     Kind::Gateway,
     Kind::Port,
     Kind::Switch,
@@ -56,6 +58,8 @@ const KINDS: [Kind; 8] = [
     Kind::Settle,
     Kind::Frame,
     Kind::Underlay,
+    Kind::Rpc,
+    Kind::Hangup,
     Kind::End,
 ];
 
@@ -71,6 +75,8 @@ fn kind_text(kind: Kind) -> &'static [u8]
         Kind::Settle => b"settle",
         Kind::Frame => b"frame",
         Kind::Underlay => b"underlay",
+        Kind::Rpc => b"rpc",
+        Kind::Hangup => b"hangup",
         Kind::End => b"end",
     }
 }
@@ -93,8 +99,8 @@ fn arity(kind: Kind) -> usize
     ensures few { result ≤ 8 }
 {
     match kind {
-        Kind::Gateway | Kind::Port | Kind::Underlay => 2,
-        Kind::Switch | Kind::Frame => 3,
+        Kind::Gateway | Kind::Port | Kind::Underlay | Kind::Hangup => 2,
+        Kind::Switch | Kind::Frame | Kind::Rpc => 3,
         Kind::Bind => 4,
         Kind::Settle | Kind::End => 0,
     }
@@ -157,6 +163,17 @@ fn mode_at(words: &[Word<'_>], place: usize) -> Result<Mode, Refusal>
         b"source" => Ok(Mode::Source),
         b"service" => Ok(Mode::Service),
         _ => Err(refusal(word.column, LineReason::Value)),
+    }
+}
+
+/// The number of a session: 0 is the controller's.
+fn session_at(words: &[Word<'_>], place: usize) -> Result<u32, Refusal>
+    ensures { result ≡ word_at session_of (map seen words.now) place }
+{
+    let word = word(words, place)?;
+    match parse_number(word.bytes, u32::MAX) {
+        Ok(0) | Err(_) => Err(refusal(word.column, LineReason::Value)),
+        Ok(session) => Ok(session),
     }
 }
 
@@ -223,6 +240,8 @@ fn instruction(alloc: Global, kind: Kind, words: &[Word<'_>]) -> Result<Instruct
         Kind::Settle => Ok(Instruction::Do(Line::Settle)),
         Kind::Frame => frame(alloc, words),
         Kind::Underlay => underlay(alloc, words),
+        Kind::Rpc => rpc(alloc, words),
+        Kind::Hangup => hangup(words),
         Kind::End => Ok(Instruction::End),
     }
 }
@@ -289,6 +308,27 @@ fn underlay(alloc: Global, words: &[Word<'_>]) -> Result<Instruction, LineFault>
     let gateway = name_at(words, 1)?;
     let bytes = hex_at(alloc, words, 2)?;
     Ok(Instruction::Do(Line::Underlay { gateway, bytes }))
+}
+
+fn rpc(alloc: Global, words: &[Word<'_>]) -> Result<Instruction, LineFault>
+    ensures { Reads result (instruction Kind.Rpc (map seen words.now)) }
+{
+    let gateway = name_at(words, 1)?;
+    let session = session_at(words, 2)?;
+    let bytes = hex_at(alloc, words, 3)?;
+    Ok(Instruction::Do(Line::Rpc {
+        gateway,
+        session,
+        bytes,
+    }))
+}
+
+fn hangup(words: &[Word<'_>]) -> Result<Instruction, LineFault>
+    ensures { Reads result (instruction Kind.Hangup (map seen words.now)) }
+{
+    let gateway = name_at(words, 1)?;
+    let session = session_at(words, 2)?;
+    Ok(Instruction::Do(Line::Hangup { gateway, session }))
 }
 
 /// What the words of a line say, or its first fault.

@@ -6,14 +6,16 @@ ghost use Rattle.fabric_world.specs.World.{start, has_vni, wanted, is_service, i
 ghost use Rattle.vtep_base.specs.Maps as maps;
 ghost use Rattle.vxlan_frames.specs.Packets.{packet_of};
 ghost use Rattle.vtep_base.specs.Memory.{joined};
-ghost use Rattle.fabric_replay.specs.PlainWorld.{world_of, site_of, is_wanted, Runs};
+ghost use Rattle.fabric_replay.specs.PlainWorld.{world_of, site_of, is_wanted, no_session, Answered, Runs};
 
+use crate::sessions::write_answer;
 use ether_frames::{Frame, FrameFault, FrameKind, read, write};
 use fabric_world::{Fault, Line, Network};
 use itoa::Buffer;
 use std::alloc::Global;
 use std::collections::BTreeMap;
 use vtep_base::{Binding, Bytes, Inner, Ipv4, Mode, Name, OutOfMemory, Vlan, Vni};
+use vtep_gateway::{Answer, Event, EventRefused, Gateway};
 use vxlan_frames::{Packet, PacketFault, PacketKind, decode};
 
 /// The most ports of a gateway.
@@ -29,6 +31,8 @@ pub(crate) struct Plain {
     ip: Ipv4,
     ports: Vec<Name>,
     installed: Vec<(Binding, Name)>,
+    /// Answers sessions, beside the ports and bindings.
+    gateway: Option<Gateway>,
     switches: BTreeMap<Name, Network>,
     bindings: BTreeMap<Binding, Name>,
 }
@@ -43,6 +47,7 @@ impl Plain {
             ip: Ipv4::from_bits(0),
             ports: Vec::new(alloc),
             installed: Vec::new(alloc),
+            gateway: None,
             switches: BTreeMap::new(alloc),
             bindings: BTreeMap::new(alloc),
         }
@@ -57,24 +62,31 @@ impl Plain {
         }
     }
 
-    fn add_gateway(&mut self, name: Name, ip: Ipv4) -> Option<Fault>
-        ensures { Runs (world_of self.old) (world_of self.new) [] [] (Line.Gateway name ip) result }
+    fn add_gateway(
+        &mut self,
+        alloc: Global,
+        name: Name,
+        ip: Ipv4,
+    ) -> Result<Option<Fault>, OutOfMemory>
+        ensures { IfOk result (λ fault. Runs (world_of self.old) (world_of self.new) [] [] (Line.Gateway name ip) fault) }
     {
         if self.knows(&name) {
-            return Some(Fault::Repeated(1));
+            return Ok(Some(Fault::Repeated(1)));
         }
         if self.name.is_some() {
-            return Some(if self.ip == ip {
+            return Ok(Some(if self.ip == ip {
                 Fault::Repeated(2)
             } else {
                 Fault::Limit
-            });
+            }));
         }
+        let gateway = Gateway::new(alloc, name, ip)?;
         self.name = Some(name);
         self.ip = ip;
         self.ports.clear();
         self.installed.clear();
-        None
+        self.gateway = Some(gateway);
+        Ok(None)
     }
 
     fn add_port(&mut self, gateway: &Name, port: Name) -> Result<Option<Fault>, OutOfMemory>
@@ -357,30 +369,97 @@ impl Plain {
         Ok(None)
     }
 
+    /// The gateway of this name answers sessions.
+    fn answers(&self, gateway: &Name) -> bool
+        ensures { result ≡ maps.has (world_of self.now).gateways gateway.now }
+    {
+        self.gateway.is_some() && self.knows(gateway)
+    }
+
+    /// Gives an event to the gateway.
+    fn step(&mut self, event: &Event) -> Result<Answer, OutOfMemory>
+        ensures { IfOk result (λ answer. Answered self.old self.new event.now answer) }
+    {
+        let Some(mut gateway) = self.gateway.take() else {
+            return Err(OutOfMemory);
+        };
+        if gateway.stopped() {
+            return Err(OutOfMemory);
+        }
+        let answer = gateway.step(event)?;
+        self.gateway = Some(gateway);
+        Ok(answer)
+    }
+
+    /// Takes a piece of a session's bytes, and writes what the gateway answers.
+    fn rpc(
+        &mut self,
+        gateway: &Name,
+        session: u32,
+        piece: Bytes,
+        out: &mut Bytes,
+    ) -> Result<Option<Fault>, OutOfMemory>
+        ensures { IfOk result (λ fault. Runs (world_of self.old) (world_of self.new) out.old out.new (Line.Rpc gateway.now session piece) fault) }
+    {
+        if !self.answers(gateway) {
+            return Ok(Some(Fault::Unknown(1)));
+        }
+        let answer = self.step(&Event::Bytes { session, piece })?;
+        write_answer(gateway, session, &answer, out)?;
+        Ok(None)
+    }
+
+    /// Ends a session.
+    fn hangup(&mut self, gateway: &Name, session: u32) -> Result<Option<Fault>, OutOfMemory>
+        ensures { IfOk result (λ fault. Runs (world_of self.old) (world_of self.new) [] [] (Line.Hangup gateway.now session) fault) }
+    {
+        if !self.answers(gateway) {
+            return Ok(Some(Fault::Unknown(1)));
+        }
+        let answer = self.step(&Event::Hangup { session })?;
+        Ok(no_session(answer.refused))
+    }
+
     /// Runs a line and appends what it writes, or says why it is refused and changes nothing.
     pub(crate) fn run(
         &mut self,
         alloc: Global,
-        line: &Line,
+        line: Line,
         out: &mut Bytes,
     ) -> Result<Option<Fault>, OutOfMemory>
-        ensures { IfOk result (λ fault. Runs (world_of self.old) (world_of self.new) out.old out.new line.now fault) }
+        ensures { IfOk result (λ fault. Runs (world_of self.old) (world_of self.new) out.old out.new line fault) }
     {
         match line {
-            Line::Gateway { name, ip } => Ok(self.add_gateway(*name, *ip)),
-            Line::Port { gateway, port } => self.add_port(gateway, *port),
-            Line::Switch { name, network } => self.add_switch(*name, *network),
-            Line::Bind { switch, binding } => self.bind(*switch, *binding),
+            Line::Gateway { name, ip } => self.add_gateway(alloc, name, ip),
+            Line::Port { gateway, port } => self.add_port(&gateway, port),
+            Line::Switch { name, network } => self.add_switch(name, network),
+            Line::Bind { switch, binding } => self.bind(switch, binding),
             Line::Settle => self.settle(alloc, out),
             Line::Frame {
                 gateway,
                 port,
                 bytes,
-            } => self.frame(alloc, gateway, port, bytes.as_slice(), out),
+            } => self.frame(alloc, &gateway, &port, bytes.as_slice(), out),
             Line::Underlay { gateway, bytes } => {
-                self.underlay(alloc, gateway, bytes.as_slice(), out)
+                self.underlay(alloc, &gateway, bytes.as_slice(), out)
             }
+            Line::Rpc {
+                gateway,
+                session,
+                bytes,
+            } => self.rpc(&gateway, session, bytes, out),
+            Line::Hangup { gateway, session } => self.hangup(&gateway, session),
         }
+    }
+}
+
+/// Why a session is not hung up.
+fn no_session(refused: Option<EventRefused>) -> Option<Fault>
+    ensures { result ≡ no_session refused }
+{
+    match refused {
+        Some(EventRefused::NoSession) => Some(Fault::Unknown(2)),
+        None => None,
     }
 }
 

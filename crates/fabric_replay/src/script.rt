@@ -128,7 +128,7 @@ impl State {
     {
         match instruction {
             Instruction::End => self.place = Place::Over,
-            Instruction::Do(line) => match self.world.run(alloc, &line, out)? {
+            Instruction::Do(line) => match self.world.run(alloc, line, out)? {
                 None => self.number += 1,
                 Some(fault) => self.place = Place::Stopped(refusal_by(words, fault)),
             },

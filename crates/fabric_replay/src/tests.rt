@@ -414,6 +414,84 @@ fn drops_frames(rt: HostRuntime) -> Result<(), Fail> {
 }
 
 #[test]
+fn refuses_session_lines(rt: HostRuntime) -> Result<(), Fail> {
+    let cases: [(&[u8], &[u8]); 24] = [
+        (b"rpc g1 1 -\x7f", b"11 byte"),
+        (b"\thangup g1 1", b"1 byte"),
+        (b"rpc", b"4 words"),
+        (b"rpc g1", b"7 words"),
+        (b"rpc g1 1", b"9 words"),
+        (b"rpc g1 1 - -", b"12 words"),
+        (b"hangup", b"7 words"),
+        (b" hangup  g1 ", b"12 words"),
+        (b"hangup g1 1 1", b"13 words"),
+        (b"rpc g/1 0 zz", b"5 value"),
+        (b"rpc g1 0 zz", b"8 value"),
+        (b"rpc g1 4294967296 -", b"8 value"),
+        (b"rpc g1 01 -", b"8 value"),
+        (b"rpc g1 -1 -", b"8 value"),
+        (b"rpc g1 1 0", b"10 value"),
+        (b"hangup g1 0", b"11 value"),
+        (b"hangup g1 4294967296", b"11 value"),
+        (b"hangup g1 -", b"11 value"),
+        (b"rpc g2 0 -", b"8 value"),
+        (b"rpc g2 1 -", b"5 unknown"),
+        (b" rpc  g9 1 00", b"7 unknown"),
+        (b"hangup g2 1", b"8 unknown"),
+        (b"hangup g1 1", b"11 unknown"),
+        (b"hangup  g1  4294967295", b"13 unknown"),
+    ];
+    refuses(&rt, rt.alloc(), &cases)
+}
+
+#[test]
+fn answers_sessions(rt: HostRuntime) -> Result<(), Fail> {
+    let cases: [(&[u8], u8, &[u8]); 8] = [
+        (
+            b"fabric 1\ngateway g1 10.0.0.1\nrpc g1 1 7b226d6574686f64223a226c6973745f646273222c22706172616d73223a5b5d2c226964223a317d\nend\n",
+            0,
+            b"rpc g1 1 {\"error\":null,\"id\":1,\"result\":[\"hardware_vtep\"]}\n",
+        ),
+        (
+            b"fabric 1\ngateway g1 10.0.0.1\nrpc g1 1 7b226d6574686f64223a226563686f222c22706172616d73223a5b225c\nrpc g1 1 227d5b225d2c226964223a2261227d\nend\n",
+            0,
+            b"rpc g1 1 {\"error\":null,\"id\":\"a\",\"result\":[\"\\\"}[\"]}\n",
+        ),
+        (
+            b"fabric 1\ngateway g1 10.0.0.1\nrpc g1 1 7b226d6574686f64223a226c6973745f646273222c22706172616d73223a5b5d2c226964223a317d207b226d6574686f64223a226563686f222c22706172616d73223a5b225c227d5b225d2c226964223a2261227d\nend\n",
+            0,
+            b"rpc g1 1 {\"error\":null,\"id\":1,\"result\":[\"hardware_vtep\"]}\nrpc g1 1 {\"error\":null,\"id\":\"a\",\"result\":[\"\\\"}[\"]}\n",
+        ),
+        (
+            b"fabric 1\ngateway g1 10.0.0.1\nrpc g1 1 7b226d6574686f64223a226c6973745f646273222c22706172616d73223a5b5d2c226964223a317d2078\nrpc g1 1 -\nend\n",
+            0,
+            b"rpc g1 1 {\"error\":null,\"id\":1,\"result\":[\"hardware_vtep\"]}\nfailed g1 1 NotObject 41\nfailed g1 1 NotObject 41\n",
+        ),
+        (
+            b"fabric 1\ngateway g1 10.0.0.1\nrpc g1 2 2078\nrpc g1 2 7b7d\nhangup g1 2\nrpc g1 2 7b7d\nend\n",
+            0,
+            b"failed g1 2 NotObject 1\nfailed g1 2 NotObject 1\nfailed g1 2 BadMessage 0\n",
+        ),
+        (
+            b"fabric 1\ngateway g1 10.0.0.1\nrpc g1 4294967295 7b5d\nrpc g1 1 -\nhangup g1 1\nhangup g1 1\n",
+            3,
+            b"failed g1 4294967295 BadJson 0\nrefused 6 11 unknown\n",
+        ),
+        (
+            b"fabric 1\ngateway g1 10.0.0.1\nrpc g1 1 7b226d6574686f64223a226c6973745f646273222c22706172616d73223a5b5d2c226964223a317d\nhangup g1 1\nport g1 p1\nsettle\nframe g1 p1 -\nend\n",
+            0,
+            b"rpc g1 1 {\"error\":null,\"id\":1,\"result\":[\"hardware_vtep\"]}\nsettled\ndrop g1 frame Short 0\n",
+        ),
+        (
+            b"fabric 1\nrpc g1 1 -\ngateway g1 10.0.0.1\nend\n",
+            3,
+            b"refused 2 5 unknown\n",
+        ),
+    ];
+    answers(&rt, rt.alloc(), &cases)
+}
+
+#[test]
 fn reaches_limits(rt: HostRuntime) -> Result<(), Fail> {
     let alloc = rt.alloc();
     let mut ports = Bytes::from_slice(alloc, b"fabric 1\ngateway g1 10.0.0.1\n")?;

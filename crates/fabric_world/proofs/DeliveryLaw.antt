@@ -20,10 +20,13 @@ use Rattle.ether_frames.specs.Frames.{Carries, frame_of, tagged}
 use Rattle.ether_frames.specs.declared.FrameFault.{FrameFault}
 use Rattle.ether_frames.proofs.Carried.{read_back}
 use Rattle.vtep_base.specs.Reading.{same_bytes}
+use Rattle.vtep_gateway.specs.Gateway as vtep
+use Rattle.vtep_gateway.specs.declared.Event.{Event}
+use Rattle.vtep_gateway.specs.declared.Event.TheVariants as event
 use Rattle.fabric_world.specs.declared.Line.{Line}
-use Rattle.fabric_world.specs.declared.Line.TheVariants.{Gateway, Port, Switch, Bind, Settle, Frame, Underlay}
+use Rattle.fabric_world.specs.declared.Line.TheVariants.{Gateway, Port, Switch, Bind, Settle, Frame, Underlay, Rpc, Hangup}
 use Rattle.fabric_world.specs.declared.Fault.{Fault}
-use Rattle.fabric_world.specs.World.{World, Site, Intent, start, first_of, has_ip, fault, step, Out, bytes_cmp, binding_cmp, at_site, wanted, installed_each, is_at_place, is_other_member, leaves, to_itself, flooded, entered, frame_outputs}
+use Rattle.fabric_world.specs.World.{World, Site, Intent, start, first_of, has_ip, fault, step, Out, bytes_cmp, binding_cmp, at_site, moved, wanted, installed_each, is_at_place, is_other_member, leaves, to_itself, flooded, entered, frame_outputs}
 use Rattle.fabric_world.specs.Logical.{IsIn, EachOnce, Logical, Delivers, member, members, destination, source}
 use Rattle.fabric_world.specs.Delivery.{Accepts, after, out_at, IsBelow, InOrder, IsDelivered, DeliversInstalled}
 
@@ -188,6 +191,15 @@ good_settled intent [] h = tt
 good_settled intent (e ∷ []) h = good_wanted intent e.0 e.1
 good_settled intent (e ∷ f ∷ es) h = absurd h
 
+-- an event of a session changes no site
+moved_sites : (w : World) (g : Bytes) (e : Event) (o : Option vtep.Gateway) → (moved w g e o).sites ≡ w.sites
+moved_sites w g e None = refl
+moved_sites w g e (Some gateway) = refl
+
+moved_limits : (w : World) (g : Bytes) (e : Event) (o : Option vtep.Gateway) → (moved w g e o).limits ≡ w.limits
+moved_limits w g e None = refl
+moved_limits w g e (Some gateway) = refl
+
 good_step : (w : World) (line : Line) → w.limits.gateways ≡ 1 → IsGood w.sites.list → fault w line ≡ None → IsGood (step w line).sites.list
 good_step w (Gateway g ip) one h e = rw (none_yet w g ip one e) (record { in_order = tt; here = tt })
 good_step w (Port g p) one h e = good_at_site w g _ (λ s. refl) h (maps.get w.sites g) refl
@@ -196,6 +208,8 @@ good_step w (Bind s b) one h e = h
 good_step w Settle one h e = good_settled w.intent w.sites.list h
 good_step w (Frame g p bytes) one h e = h
 good_step w (Underlay g bytes) one h e = h
+good_step w (Rpc g s piece) one h e = rw (moved_sites w g (event.Bytes s piece) (maps.get w.gateways g)) h
+good_step w (Hangup g s) one h e = rw (moved_sites w g (event.Hangup s) (maps.get w.gateways g)) h
 
 at_site_limits : (change : Site → Site) (w : World) (g : Bytes) (o : Option Site) → (at_site change w g o).limits ≡ w.limits
 at_site_limits change w g None = refl
@@ -209,6 +223,8 @@ step_limits w (Bind s b) = refl
 step_limits w Settle = refl
 step_limits w (Frame g p bytes) = refl
 step_limits w (Underlay g bytes) = refl
+step_limits w (Rpc g s piece) = moved_limits w g (event.Bytes s piece) (maps.get w.gateways g)
+step_limits w (Hangup g s) = moved_limits w g (event.Hangup s) (maps.get w.gateways g)
 
 good_after : (lines : List Line) (w : World) → w.limits.gateways ≡ 1 → IsGood w.sites.list → Accepts w lines → IsGood (after w lines).sites.list
 good_after [] w one h a = h

@@ -1,5 +1,7 @@
 -- Worked scripts and their output, by computation.
 use Rattle.std.proofs.Common.{◌≡◌, [], refl, codes}
+use Rattle.std.specs.Str.{is_utf8, chars}
+use Rattle.json_notation.specs.Computes.{texts as json_texts}
 use Rattle.fabric_world.specs.Computes.{texts}
 use Rattle.fabric_world.specs.declared.Form.TheVariants as form
 use Rattle.fabric_world.specs.Script.{output}
@@ -54,3 +56,8 @@ inspected = refl
 pub two_words : output form.Inspect (codes "-\n -  00\n") ≡ codes "refused Short 0\nrefused 2 5 words\n"
 unfolding texts
 two_words = refl
+
+pub sessions : output form.Replay (codes "fabric 1\ngateway g1 10.0.0.1\nrpc g1 1 7b226d6574686f64223a226c6973745f646273222c22706172616d73223a5b5d2c226964223a317d\nrpc g1 1 7b226d6574686f64223a226563686f222c22706172616d73223a5b225c\nrpc g1 1 227d5b225d2c226964223a2261227d\nrpc g1 2 2078\nrpc g1 2 7b7d\nhangup g1 2\nrpc g1 2 -\nhangup g1 3\n")
+    ≡ codes "rpc g1 1 {\"error\":null,\"id\":1,\"result\":[\"hardware_vtep\"]}\nrpc g1 1 {\"error\":null,\"id\":\"a\",\"result\":[\"\\\"}[\"]}\nfailed g1 2 NotObject 1\nfailed g1 2 NotObject 1\nrefused 10 11 unknown\n"
+unfolding texts json_texts is_utf8 chars
+sessions = refl

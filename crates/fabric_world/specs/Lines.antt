@@ -1,10 +1,9 @@
 -- The lines of a script as data, and how a line is read.
-use Rattle.std.specs.Prelude.{ℕ, ◌+◌, ◌==◌, Bool, nat_lt, nat_eq, if◌then◌else◌, List, [], ◌∷◌, length, Option, Some, None, slice_get, codes, Result, Ok, Err}
+use Rattle.std.specs.Prelude.{ℕ, ◌+◌, ◌-◌, ◌^◌, ◌==◌, Bool, nat_lt, if◌then◌else◌, List, [], ◌∷◌, length, Option, Some, None, option_and_then, slice_get, codes, Result, Ok, Err}
 use Rattle.std.specs.Result.{result_ok}
-use Rattle.std.specs.Cmp.Lexicographic.{pointwise}
 use Rattle.hex.specs.Hex.{decode_of}
 use Rattle.vtep_base.specs.Reading.{Bytes, same_bytes}
-use Rattle.vtep_base.specs.Texts.{name_of, ipv4_of, vni_of, vlan_of}
+use Rattle.vtep_base.specs.Texts.{name_of, ipv4_of, vni_of, vlan_of, number_upto}
 use Rattle.vtep_base.specs.declared.answers.Mode.{Mode}
 use Rattle.vtep_base.specs.declared.answers.Mode.TheVariants.{Source, Service}
 use Rattle.vtep_base.specs.declared.answers.LineReason.{LineReason}
@@ -12,7 +11,7 @@ use Rattle.vtep_base.specs.declared.answers.LineReason.TheVariants as reason
 use Rattle.fabric_world.specs.declared.Refusal.{Refusal}
 use Rattle.fabric_world.specs.declared.Kind.{Kind}
 use Rattle.fabric_world.specs.declared.Kind.TheVariants as kind
-use Rattle.fabric_world.specs.declared.Line.TheVariants.{Gateway, Port, Switch, Bind, Settle, Frame, Underlay}
+use Rattle.fabric_world.specs.declared.Line.TheVariants.{Gateway, Port, Switch, Bind, Settle, Frame, Underlay, Rpc, Hangup}
 use Rattle.fabric_world.specs.declared.Instruction.{Instruction}
 use Rattle.fabric_world.specs.declared.Instruction.TheVariants.{Do, End}
 use Rattle.fabric_world.specs.Text.{Word, words, bad_byte}
@@ -39,10 +38,12 @@ kind_text kind.Bind = codes "bind"
 kind_text kind.Settle = codes "settle"
 kind_text kind.Frame = codes "frame"
 kind_text kind.Underlay = codes "underlay"
+kind_text kind.Rpc = codes "rpc"
+kind_text kind.Hangup = codes "hangup"
 kind_text kind.End = codes "end"
 
 abbrev pub kinds : List Kind
-kinds = kind.Gateway ∷ kind.Port ∷ kind.Switch ∷ kind.Bind ∷ kind.Settle ∷ kind.Frame ∷ kind.Underlay ∷ kind.End ∷ []
+kinds = kind.Gateway ∷ kind.Port ∷ kind.Switch ∷ kind.Bind ∷ kind.Settle ∷ kind.Frame ∷ kind.Underlay ∷ kind.Rpc ∷ kind.Hangup ∷ kind.End ∷ []
 
 -- the first of the kinds that has this word
 abbrev pub kind_among : Bytes → List Kind → Option Kind
@@ -61,12 +62,21 @@ arity kind.Bind = 4
 arity kind.Settle = 0
 arity kind.Frame = 3
 arity kind.Underlay = 2
+arity kind.Rpc = 3
+arity kind.Hangup = 2
 arity kind.End = 0
 
 -- ---- the forms of words
 
 abbrev pub mode_of : Bytes → Option Mode
 mode_of word = if is_word word (codes "source") then Some Source else if is_word word (codes "service") then Some Service else None
+
+abbrev pub not_zero : ℕ → Option ℕ
+not_zero n = if n == 0 then None else Some n
+
+-- session 0 is the controller's
+abbrev pub session_of : Bytes → Option ℕ
+session_of word = option_and_then not_zero (number_upto (2 ^ 32 - 1) word)
 
 -- `-` is no bytes
 abbrev pub hex_of : Bytes → Option Bytes
@@ -115,6 +125,15 @@ instruction kind.Underlay ws = do
   g ← word_at name_of ws 1
   bytes ← word_at hex_of ws 2
   Ok (Do (Underlay g bytes))
+instruction kind.Rpc ws = do
+  g ← word_at name_of ws 1
+  s ← word_at session_of ws 2
+  bytes ← word_at hex_of ws 3
+  Ok (Do (Rpc g s bytes))
+instruction kind.Hangup ws = do
+  g ← word_at name_of ws 1
+  s ← word_at session_of ws 2
+  Ok (Do (Hangup g s))
 instruction kind.End ws = Ok End
 
 -- ---- a line

@@ -21,9 +21,18 @@ use Rattle.vxlan_frames.specs.Packets.{packet_of}
 use Rattle.vxlan_frames.specs.declared.PacketFault.{PacketFault}
 use Rattle.vxlan_frames.specs.declared.PacketKind.{PacketKind}
 use Rattle.vxlan_frames.specs.declared.PacketKind.TheVariants as packet_kind
+use Rattle.rpc_framing.specs.declared.Framing.{Framing}
+use Rattle.rpc_framing.specs.declared.FramingKind.{FramingKind}
+use Rattle.rpc_framing.specs.declared.FramingKind.TheVariants as framing_kind
+use Rattle.vtep_gateway.specs.Gateway as vtep
+use Rattle.vtep_gateway.specs.Moves as moves
+use Rattle.vtep_gateway.specs.declared.Event.{Event}
+use Rattle.vtep_gateway.specs.declared.Event.TheVariants as event
+use Rattle.vtep_gateway.specs.declared.Answer.{Answer}
+use Rattle.vtep_gateway.specs.declared.Outgoing.{Outgoing}
 use Rattle.fabric_world.specs.declared.Network.{Network}
 use Rattle.fabric_world.specs.declared.Line.{Line}
-use Rattle.fabric_world.specs.declared.Line.TheVariants.{Gateway, Port, Switch, Bind, Settle, Frame, Underlay}
+use Rattle.fabric_world.specs.declared.Line.TheVariants.{Gateway, Port, Switch, Bind, Settle, Frame, Underlay, Rpc, Hangup}
 use Rattle.fabric_world.specs.declared.Fault.{Fault}
 use Rattle.fabric_world.specs.declared.Fault.TheVariants.{Unknown, Repeated, Limit, Use}
 use Rattle.vtep_base.specs.Reading.{same_bytes}
@@ -57,12 +66,14 @@ pub record Limits : Type 0 where
 pub record World : Type 0 where
   pub limits : Limits
   pub sites : Map bytes_cmp Site
+  pub gateways : Map bytes_cmp vtep.Gateway  -- they answer sessions, beside the sites
   pub intent : Intent
 
 abbrev pub start : World
 start = record {
   limits = record { gateways = 1; ports = 64; switches = 1024 };
   sites = maps.empty;
+  gateways = maps.empty;
   intent = record { switches = maps.empty; bindings = maps.empty };
 }
 
@@ -91,6 +102,11 @@ abbrev pub is_service : Mode → Bool
 is_service Source = false
 is_service Service = true
 
+-- the session is open at the gateway
+abbrev pub has_session : ℕ → Option vtep.Gateway → Bool
+has_session s None = false
+has_session s (Some gateway) = maps.has gateway.streams s
+
 abbrev pub fault : World → Line → Option Fault
 fault w (Gateway g ip) = first_of (
     (maps.has w.sites g, Repeated 1)
@@ -114,6 +130,10 @@ fault w (Frame g p bytes) = first_of (
     (not (maps.has w.sites g), Unknown 1)
     ∷ (not (has_port p (maps.get w.sites g)), Unknown 2) ∷ [])
 fault w (Underlay g bytes) = first_of ((not (maps.has w.sites g), Unknown 1) ∷ [])
+fault w (Rpc g s bytes) = first_of ((not (maps.has w.gateways g), Unknown 1) ∷ [])
+fault w (Hangup g s) = first_of (
+    (not (maps.has w.gateways g), Unknown 1)
+    ∷ (not (has_session s (maps.get w.gateways g)), Unknown 2) ∷ [])
 
 -- ---- what a line does
 
@@ -129,6 +149,8 @@ pub data Output : Type 0 where
   Settled : Output
   Out : Bytes → Bytes → Bytes → Output  -- the gateway, the port and the bytes
   Drop : Bytes → Reason → Output  -- the gateway
+  Message : Bytes → Outgoing → Output  -- the gateway, and what goes to a session
+  Failed : Bytes → ℕ → Framing → Output  -- the gateway, and the session that is refused
 
 abbrev pub at_site : (Site → Site) → World → Bytes → Option Site → World
 at_site change w g None = w
@@ -199,19 +221,39 @@ abbrev pub packet_outputs : Bytes → Intent → Bytes → Option Site → List 
 packet_outputs g intent bytes None = []
 packet_outputs g intent bytes (Some site) = taken_out g intent site (packet_of bytes)
 
+-- an event comes to a gateway
+abbrev pub moved : World → Bytes → Event → Option vtep.Gateway → World
+moved w g e None = w
+moved w g e (Some gateway) = record w { gateways = maps.insert w.gateways g (moves.step gateway e).gateway }
+
+-- the messages that go to sessions, and then the refusal of the session that the piece came to
+abbrev pub failed : Bytes → ℕ → Option Framing → List Output
+failed g s None = []
+failed g s (Some why) = Failed g s why ∷ []
+
+abbrev pub answer_outputs : Bytes → ℕ → Answer → List Output
+answer_outputs g s a = map (Message g) a.sends ++ failed g s a.failed
+
+abbrev pub piece_outputs : Bytes → ℕ → Bytes → Option vtep.Gateway → List Output
+piece_outputs g s piece None = []
+piece_outputs g s piece (Some gateway) = answer_outputs g s (moves.step gateway (event.Bytes s piece)).answer
+
 abbrev pub step : World → Line → World
-step w (Gateway g ip) = record w { sites = maps.insert w.sites g (record { ip = ip; ports = []; installed = [] }) }
+step w (Gateway g ip) = record w { sites = maps.insert w.sites g (record { ip = ip; ports = []; installed = [] }); gateways = maps.insert w.gateways g (vtep.new_gateway g ip) }
 step w (Port g p) = at_gateway w g (λ site. record site { ports = site.ports ++ p ∷ [] })
 step w (Switch s n) = record w { intent = record w.intent { switches = maps.insert w.intent.switches s n } }
 step w (Bind s b) = record w { intent = record w.intent { bindings = maps.insert w.intent.bindings b s } }
 step w Settle = record w { sites = installed_each w.intent w.sites.list }
 step w (Frame g p bytes) = w
 step w (Underlay g bytes) = w
+step w (Rpc g s piece) = moved w g (event.Bytes s piece) (maps.get w.gateways g)
+step w (Hangup g s) = moved w g (event.Hangup s) (maps.get w.gateways g)
 
 abbrev pub outputs : World → Line → List Output
 outputs w Settle = Settled ∷ []
 outputs w (Frame g p bytes) = frame_outputs g p bytes (maps.get w.sites g)
 outputs w (Underlay g bytes) = packet_outputs g w.intent bytes (maps.get w.sites g)
+outputs w (Rpc g s piece) = piece_outputs g s piece (maps.get w.gateways g)
 outputs w _ = []
 
 -- ---- the output as text
@@ -248,10 +290,19 @@ reason_words (No_packet why) = codes " packet " ∷ packet_kind_text why.kind �
 reason_words Other_address = codes " address\n" ∷ []
 reason_words Unknown_vni = codes " vni\n" ∷ []
 
+abbrev pub framing_kind_text : FramingKind → Bytes
+framing_kind_text framing_kind.NotObject = codes "NotObject"
+framing_kind_text framing_kind.TooDeep = codes "TooDeep"
+framing_kind_text framing_kind.TooLong = codes "TooLong"
+framing_kind_text framing_kind.BadJson = codes "BadJson"
+framing_kind_text framing_kind.BadMessage = codes "BadMessage"
+
 abbrev pub output_text : Output → Bytes
 output_text Settled = codes "settled\n"
 output_text (Out g p bytes) = joined (codes "out " ∷ g ∷ codes " " ∷ p ∷ codes " " ∷ hex_word bytes ∷ codes "\n" ∷ [])
 output_text (Drop g why) = joined (codes "drop " ∷ g ∷ reason_words why)
+output_text (Message g o) = joined (codes "rpc " ∷ g ∷ codes " " ∷ decimal o.session ∷ codes " " ∷ o.bytes ∷ codes "\n" ∷ [])
+output_text (Failed g s why) = joined (codes "failed " ∷ g ∷ codes " " ∷ decimal s ∷ codes " " ∷ framing_kind_text why.kind ∷ codes " " ∷ decimal why.offset ∷ codes "\n" ∷ [])
 
 abbrev pub outputs_text : List Output → Bytes
 outputs_text os = flat_map output_text os

@@ -24,6 +24,8 @@ pub enum Kind {
     Settle,
     Frame,
     Underlay,
+    Rpc,
+    Hangup,
     End,
 }
 
@@ -55,6 +57,16 @@ pub enum Line {
     Underlay {
         gateway: Name,
         bytes: Bytes,
+    },
+    /// Bytes come from a session of the gateway's database.
+    Rpc {
+        gateway: Name,
+        session: u32,
+        bytes: Bytes,
+    },
+    Hangup {
+        gateway: Name,
+        session: u32,
     },
 }
 

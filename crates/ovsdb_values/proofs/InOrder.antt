@@ -1,7 +1,8 @@
 -- Lists that are in order stay as they are.
-use Rattle.std.proofs.Common.{◌≡◌, List, [], ◌∷◌, ◌++◌, false, Some, None, refl, ap, sym, subst, ◌∙◌, append_assoc, append-nil}
-use Rattle.std.specs.Prelude.{◌||◌, is_some, if◌then◌else◌}
+use Rattle.std.proofs.Common.{◌≡◌, Bool, true, cond, List, [], ◌∷◌, ◌++◌, false, Some, None, refl, ap, sym, subst, ◌∙◌, append_assoc, append-nil}
+use Rattle.std.specs.Prelude.{◌||◌, is_some, if◌then◌else◌, filter}
 use Rattle.std.specs.List.{AllByRecursion, list_any}
+use Rattle.std.proofs.lemmas.List.Kept.{IsStrictlySortedBy-filter}
 use Rattle.std.specs.List.Sorted.{IsStrictlySortedBy}
 use Rattle.std.specs.Map.{keys_of, lookup}
 use Rattle.std.specs.BTreeMap.{is_at, insert_entry}
@@ -69,3 +70,40 @@ map_stays done (p ∷ rest) h =
     ∙ ap (λ l. map_from l rest) (put_last done p.0 p.1 under)
     ∙ map_stays (done ++ p ∷ []) rest (subst (λ l. IsStrictlySortedBy atom_cmp (keys_of l)) (sym joined) h)
     ∙ ap Some joined
+
+pub no_atoms : (xs : List Atom) → xs ≡ [] → IsStrictlySortedBy atom_cmp xs
+unfolding IsStrictlySortedBy
+no_atoms xs e = rw e tt
+
+pub no_pairs : (ps : List (Atom × Atom)) → ps ≡ [] → IsStrictlySortedBy atom_cmp (keys_of ps)
+unfolding IsStrictlySortedBy
+no_pairs ps e = rw e tt
+
+pub one_atom : (xs : List Atom) (a : Atom) → xs ≡ a ∷ [] → IsStrictlySortedBy atom_cmp xs
+unfolding IsStrictlySortedBy
+one_atom xs a e = rw e (tt, tt)
+
+-- what is kept of pairs in order is in order
+kept_one : (P : Atom → Type 0) (b : Bool) (p : Atom × Atom) (ps : List (Atom × Atom)) → P p.0 → AllByRecursion P (keys_of ps) → AllByRecursion P (keys_of (cond b (p ∷ ps) ps))
+kept_one P true p ps h hs = (h, hs)
+kept_one P false p ps h hs = hs
+
+kept_keys : (P : Atom → Type 0) (test : Atom × Atom → Bool) (ps : List (Atom × Atom)) → AllByRecursion P (keys_of ps) → AllByRecursion P (keys_of (filter test ps))
+kept_keys P test [] h = tt
+kept_keys P test (p ∷ ps) h = kept_one P (test p) p (filter test ps) h.0 (kept_keys P test ps h.1)
+
+sorted_one : (b : Bool) (p : Atom × Atom) (ps : List (Atom × Atom)) → AllByRecursion (λ y. atom_cmp p.0 y ≡ Less) (keys_of ps) → IsStrictlySortedBy atom_cmp (keys_of ps) → IsStrictlySortedBy atom_cmp (keys_of (cond b (p ∷ ps) ps))
+unfolding IsStrictlySortedBy
+sorted_one true p ps h hs = (h, hs)
+sorted_one false p ps h hs = hs
+
+in_order : (test : Atom × Atom → Bool) (ps : List (Atom × Atom)) → IsStrictlySortedBy atom_cmp (keys_of ps) → IsStrictlySortedBy atom_cmp (keys_of (filter test ps))
+unfolding IsStrictlySortedBy
+in_order test [] h = tt
+in_order test (p ∷ ps) h = sorted_one (test p) p (filter test ps) (kept_keys (λ y. atom_cmp p.0 y ≡ Less) test ps h.0) (in_order test ps h.1)
+
+pub kept_pairs : (test : Atom × Atom → Bool) (rest seen own : List (Atom × Atom)) → rest ≡ filter test seen → seen ≡ own → IsStrictlySortedBy atom_cmp (keys_of own) → IsStrictlySortedBy atom_cmp (keys_of rest)
+kept_pairs test rest seen own e f h = rw (e, f) (in_order test own h)
+
+pub kept_atoms : (test : Atom → Bool) (rest seen own : List Atom) → rest ≡ filter test seen → seen ≡ own → IsStrictlySortedBy atom_cmp own → IsStrictlySortedBy atom_cmp rest
+kept_atoms test rest seen own e f h = rw (e, f) (IsStrictlySortedBy-filter atom_cmp test own h)

@@ -16,7 +16,7 @@ use Rattle.ovsdb_values.specs.declared.atoms.Atom.{Atom}
 use Rattle.ovsdb_values.specs.declared.atoms.Atom.TheVariants.{Integer, Text, Id, Named}
 use Rattle.ovsdb_values.specs.declared.datums.Datum.{Datum}
 use Rattle.ovsdb_values.specs.declared.datums.Datum.TheVariants.{Set, Map}
-use Rattle.ovsdb_values.specs.Notation.{IsOfKind, IsOfKinds, IsOf, atom_of, atom_json, entry_of, entry_json, both, first_of, atoms_of, pairs_of, each_from, set_json, word_json, set_of, map_of, set_or, map_or, datum_by, datum_of, datum_json, name_in, behind}
+use Rattle.ovsdb_values.specs.Notation.{IsOfKind, IsOfKinds, IsOf, atom_of, atom_json, entry_of, entry_json, both, first_of, atoms_of, pairs_of, each_from, set_json, word_json, as_set, as_map, set_or, map_or, datum_by, datum_of, datum_json, name_in, behind}
 use Rattle.ovsdb_values.proofs.Ids.{id_back}
 use Rattle.ovsdb_values.proofs.InOrder.{set_stays, map_stays}
 use Rattle.ovsdb_values.proofs.JsonLists.{each_back, held}
@@ -72,10 +72,10 @@ pairs_back k v pairs h =
     ∙ each_back (entry_of k v) entry_json [] pairs (all_back _ _ (entry_back k v) pairs h)
 
 by_kinds : (k : Kind) (o : Option Kind) (datum : Datum) → IsOfKinds k o datum → datum_by k o (datum_json datum) ≡ Ok datum
-by_kinds k None (Set atoms) h = ap set_of (atoms_back k atoms h.0) ∙ ap set_or (set_stays [] atoms h.1)
+by_kinds k None (Set atoms) h = ap as_set (atoms_back k atoms h.0) ∙ ap set_or (set_stays [] atoms h.1)
 by_kinds k None (Map pairs) h = absurd h
 by_kinds k (Some v) (Set atoms) h = absurd h
-by_kinds k (Some v) (Map pairs) h = ap map_of (pairs_back k v pairs h.0) ∙ ap map_or (map_stays [] pairs h.1)
+by_kinds k (Some v) (Map pairs) h = ap as_map (pairs_back k v pairs h.0) ∙ ap map_or (map_stays [] pairs h.1)
 
 pub read_back : (shape : Shape) (datum : Datum) → IsOf shape datum → datum_of shape (datum_json datum) ≡ Ok datum
 read_back shape datum h = by_kinds shape.key shape.value datum h

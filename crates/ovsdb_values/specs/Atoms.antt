@@ -1,10 +1,10 @@
 -- Atoms and their order, and lists of them in order (RFC 7047, section 3.1).
-use Rattle.std.specs.Prelude.{ℕ, ℤ, pos, List, [], ◌∷◌, if◌then◌else◌, is_some, Option, Some, None}
+use Rattle.std.specs.Prelude.{ℕ, ℤ, pos, Bool, List, [], ◌∷◌, if◌then◌else◌, is_some, Option, Some, None}
 use Rattle.std.specs.List.{list_any}
 use Rattle.std.specs.Map.{lookup}
 use Rattle.std.specs.BTreeMap.{is_at, insert_entry}
 use Rattle.std.specs.BTreeSet.{insert_key}
-use Rattle.std.specs.Ordering.{nat_cmp, int_cmp, ordering_then}
+use Rattle.std.specs.Ordering.{nat_cmp, int_cmp, ordering_then, is_eq}
 use Rattle.std.specs.Cmp.{IsTotalOrder, nat_cmp_total, int_cmp_total}
 use Rattle.std.specs.Cmp.Lexicographic.{slice_cmp, nat_list_cmp_total}
 use Rattle.std.specs.declared.cmp.Ordering.{Ordering}
@@ -46,6 +46,9 @@ atom_cmp a b =
 
 pub atom_total : IsTotalOrder atom_cmp
 atom_total = then_total (then_total (then_total (on_total rank nat_cmp_total) (on_total integer_in int_cmp_total)) (on_total id_in nat_cmp_total)) (on_total text_in nat_list_cmp_total)
+
+abbrev pub same_atom : Atom → Atom → Bool
+same_atom a b = is_eq (atom_cmp a b)
 
 -- ---- the atoms of a list in order: none where an atom stands twice
 

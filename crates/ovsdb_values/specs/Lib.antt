@@ -1,2 +1,4 @@
 pub mod Atoms
+pub mod Sets
+pub mod Exact
 pub mod Notation

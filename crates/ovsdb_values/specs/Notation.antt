@@ -92,17 +92,17 @@ abbrev pub map_or : Option (List (Atom × Atom)) → Result Datum NotationFault
 map_or None = Err Repeated
 map_or (Some pairs) = Ok (Map pairs)
 
-abbrev pub set_of : Option (List Atom) → Result Datum NotationFault
-set_of None = Err Notation
-set_of (Some atoms) = set_or (set_from [] atoms)
+abbrev pub as_set : Option (List Atom) → Result Datum NotationFault
+as_set None = Err Notation
+as_set (Some atoms) = set_or (set_from [] atoms)
 
-abbrev pub map_of : Option (List (Atom × Atom)) → Result Datum NotationFault
-map_of None = Err Notation
-map_of (Some pairs) = map_or (map_from [] pairs)
+abbrev pub as_map : Option (List (Atom × Atom)) → Result Datum NotationFault
+as_map None = Err Notation
+as_map (Some pairs) = map_or (map_from [] pairs)
 
 abbrev pub datum_by : Kind → Option Kind → Data → Result Datum NotationFault
-datum_by k None d = set_of (atoms_of k d)
-datum_by k (Some v) d = map_of (pairs_of k v d)
+datum_by k None d = as_set (atoms_of k d)
+datum_by k (Some v) d = as_map (pairs_of k v d)
 
 -- a call's fault is the one that is meant, or want of memory
 abbrev pub IsOrMemory : NotationFault → Result Datum NotationFault → Type 0
@@ -152,10 +152,13 @@ IsOfKind kind.Id (Id u) = u < 2 ^ 128
 IsOfKind kind.Id (Named t) = Unit {0}
 IsOfKind _ _ = ⊥
 
+abbrev pub IsOfPair : Kind → Kind → Atom × Atom → Type 0
+IsOfPair key value p = IsOfKind key p.0 × IsOfKind value p.1
+
 -- a datum of a shape: its atoms are of their kinds, and stand in order
 abbrev pub IsOfKinds : Kind → Option Kind → Datum → Type 0
 IsOfKinds key None (Set atoms) = AllByRecursion (IsOfKind key) atoms × IsStrictlySortedBy atom_cmp atoms
-IsOfKinds key (Some value) (Map pairs) = AllByRecursion (λ p. IsOfKind key p.0 × IsOfKind value p.1) pairs × IsStrictlySortedBy atom_cmp (keys_of pairs)
+IsOfKinds key (Some value) (Map pairs) = AllByRecursion (IsOfPair key value) pairs × IsStrictlySortedBy atom_cmp (keys_of pairs)
 IsOfKinds _ _ _ = ⊥
 
 abbrev pub IsOf : Shape → Datum → Type 0

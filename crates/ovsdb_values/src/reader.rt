@@ -1,13 +1,17 @@
 //! What a JSON value means.
 
-ghost use Rattle.std.specs.Prelude.{◌≡◌, [], ◌∷◌, map, option_map, option_and_then, codes, IfOk, IfErr, Ok, Err};
+ghost use Rattle.std.specs.Prelude.{◌≡◌, ◌<◌, ◌^◌, [], ◌∷◌, map, option_map, option_and_then, codes, FitsSigned, IfSome, IfOk, IfErr, Ok, Err};
+ghost use Rattle.std.specs.Int.{w64};
+ghost use Rattle.std.specs.List.{AllByRecursion};
 ghost use Rattle.serde_json.specs.View.{view};
 ghost use Rattle.json_notation.specs.Json.{text_of, list_of, integer_of};
-ghost use Rattle.ovsdb_values.specs.Notation.{pair_in, behind, id_of, id_in, name_in, atom_of, entry_of, each_from, atoms_of, pairs_of, set_of, map_of, datum_of, IsOrMemory};
+ghost use Rattle.ovsdb_values.specs.Notation.{pair_in, behind, id_of, id_in, name_in, atom_of, entry_of, each_from, atoms_of, pairs_of, as_set, as_map, datum_of, IsOrMemory, IsOfKind, IsOfPair, IsOfKinds, IsOf};
 
 use crate::NotationFault;
+use crate::atom_maps::AtomMap;
+use crate::atom_sets::AtomSet;
 use crate::atoms::Atom;
-use crate::datums::{AtomMap, AtomSet, Datum};
+use crate::datums::Datum;
 use serde_json::Value;
 use std::alloc::Global;
 use uuid::Uuid;
@@ -32,7 +36,8 @@ fn text(value: &Value) -> Option<&str>
 }
 
 fn integer(value: &Value) -> Option<i64>
-    ensures { result ≡ integer_of (view value.now) }
+    ensures value { result ≡ integer_of (view value.now) }
+    ensures fits { IfSome result (FitsSigned w64) }
 {
     match value {
         Value::Number(number) => number.as_i64(),
@@ -63,7 +68,8 @@ fn behind<'a>(word: &str, value: &'a Value) -> Option<&'a Value>
 }
 
 fn parse_id(text: &str) -> Option<RowId>
-    ensures { result ≡ id_of text.now }
+    ensures value { result ≡ id_of text.now }
+    ensures fits { IfSome result (λ id. id < 2 ^ 128) }
 {
     if text.len() != 36 {
         return None;
@@ -75,7 +81,8 @@ fn parse_id(text: &str) -> Option<RowId>
 }
 
 fn id_in(value: &Value) -> Option<RowId>
-    ensures { result ≡ id_in (view value.now) }
+    ensures value { result ≡ id_in (view value.now) }
+    ensures fits { IfSome result (λ id. id < 2 ^ 128) }
 {
     parse_id(text(behind("uuid", value)?)?)
 }
@@ -105,7 +112,8 @@ fn read_name(alloc: Global, value: &Value) -> Result<Option<Atom>, OutOfMemory>
 }
 
 fn read_atom(alloc: Global, kind: Kind, value: &Value) -> Result<Option<Atom>, OutOfMemory>
-    ensures { IfOk result (λ atom. atom ≡ atom_of kind (view value.now)) }
+    ensures value { IfOk result (λ atom. atom ≡ atom_of kind (view value.now)) }
+    ensures of_kind { IfOk result (λ atom. IfSome atom (IsOfKind kind)) }
 {
     match kind {
         Kind::Integer => Ok(integer(value).map(Atom::Integer)),
@@ -123,7 +131,8 @@ fn read_entry(
     value: Kind,
     entry: &Value,
 ) -> Result<Option<(Atom, Atom)>, OutOfMemory>
-    ensures { IfOk result (λ pair. pair ≡ entry_of key value (view entry.now)) }
+    ensures value { IfOk result (λ pair. pair ≡ entry_of key value (view entry.now)) }
+    ensures of_kinds { IfOk result (λ pair. IfSome pair (IsOfPair key value)) }
 {
     let Some((first, second)) = pair_in(entry) else {
         return Ok(None);
@@ -137,8 +146,10 @@ fn read_entry(
     Ok(Some((first, second)))
 }
 
+#[tactic(auto, using(crate::proofs::Carried::all_pushed))]
 fn read_each(alloc: Global, kind: Kind, values: &[Value]) -> Result<Option<List<Atom>>, OutOfMemory>
-    ensures { IfOk result (λ atoms. atoms ≡ each_from (atom_of kind) [] (map view values.now)) }
+    ensures value { IfOk result (λ atoms. atoms ≡ each_from (atom_of kind) [] (map view values.now)) }
+    ensures of_kind { IfOk result (λ atoms. IfSome atoms (AllByRecursion (IsOfKind kind))) }
 {
     let mut atoms = List::new(alloc);
     'values: for value in values {
@@ -150,13 +161,15 @@ fn read_each(alloc: Global, kind: Kind, values: &[Value]) -> Result<Option<List<
     Ok(Some(atoms))
 }
 
+#[tactic(auto, using(crate::proofs::Carried::all_pushed))]
 fn read_entries(
     alloc: Global,
     key: Kind,
     value: Kind,
     values: &[Value],
 ) -> Result<Option<List<(Atom, Atom)>>, OutOfMemory>
-    ensures { IfOk result (λ pairs. pairs ≡ each_from (entry_of key value) [] (map view values.now)) }
+    ensures value { IfOk result (λ pairs. pairs ≡ each_from (entry_of key value) [] (map view values.now)) }
+    ensures of_kinds { IfOk result (λ pairs. IfSome pairs (AllByRecursion (IsOfPair key value))) }
 {
     let mut pairs = List::new(alloc);
     'values: for entry in values {
@@ -176,8 +189,14 @@ fn one(alloc: Global, atom: Atom) -> Result<List<Atom>, OutOfMemory>
     Ok(atoms)
 }
 
-fn read_atoms(alloc: Global, kind: Kind, value: &Value) -> Result<Option<List<Atom>>, OutOfMemory>
-    ensures { IfOk result (λ atoms. atoms ≡ atoms_of kind (view value.now)) }
+/// The atoms of a set as they stand there, or none where the value has not the form of a set.
+pub fn atoms_from_json(
+    alloc: Global,
+    kind: Kind,
+    value: &Value,
+) -> Result<Option<List<Atom>>, OutOfMemory>
+    ensures value { IfOk result (λ atoms. atoms ≡ atoms_of kind (view value.now)) }
+    ensures of_kind { IfOk result (λ atoms. IfSome atoms (AllByRecursion (IsOfKind kind))) }
 {
     if let Some(atom) = read_atom(alloc, kind, value)? {
         return Ok(Some(one(alloc, atom)?));
@@ -200,13 +219,15 @@ fn map_in(value: &Value) -> Option<&[Value]>
     items(behind("map", value)?)
 }
 
-fn read_pairs(
+/// The pairs of a map as they stand there, or none where the value has not the form of a map.
+pub fn pairs_from_json(
     alloc: Global,
     key: Kind,
     value: Kind,
     pairs: &Value,
 ) -> Result<Option<List<(Atom, Atom)>>, OutOfMemory>
-    ensures { IfOk result (λ read. read ≡ pairs_of key value (view pairs.now)) }
+    ensures value { IfOk result (λ read. read ≡ pairs_of key value (view pairs.now)) }
+    ensures of_kinds { IfOk result (λ read. IfSome read (AllByRecursion (IsOfPair key value))) }
 {
     match map_in(pairs) {
         Some(values) => read_entries(alloc, key, value, values),
@@ -215,10 +236,11 @@ fn read_pairs(
 }
 
 fn read_set(alloc: Global, kind: Kind, value: &Value) -> Result<Datum, NotationFault>
-    ensures ok { IfOk result (λ datum. set_of (atoms_of kind (view value.now)) ≡ Ok datum) }
-    ensures err { IfErr result (λ fault. IsOrMemory fault (set_of (atoms_of kind (view value.now)))) }
+    ensures ok { IfOk result (λ datum. as_set (atoms_of kind (view value.now)) ≡ Ok datum) }
+    ensures of_kind { IfOk result (IsOfKinds kind None) }
+    ensures err { IfErr result (λ fault. IsOrMemory fault (as_set (atoms_of kind (view value.now)))) }
 {
-    let Some(atoms) = read_atoms(alloc, kind, value)? else {
+    let Some(atoms) = atoms_from_json(alloc, kind, value)? else {
         return Err(NotationFault::Notation);
     };
     match AtomSet::of(alloc, atoms)? {
@@ -228,10 +250,11 @@ fn read_set(alloc: Global, kind: Kind, value: &Value) -> Result<Datum, NotationF
 }
 
 fn read_map(alloc: Global, key: Kind, value: Kind, pairs: &Value) -> Result<Datum, NotationFault>
-    ensures ok { IfOk result (λ datum. map_of (pairs_of key value (view pairs.now)) ≡ Ok datum) }
-    ensures err { IfErr result (λ fault. IsOrMemory fault (map_of (pairs_of key value (view pairs.now)))) }
+    ensures ok { IfOk result (λ datum. as_map (pairs_of key value (view pairs.now)) ≡ Ok datum) }
+    ensures of_kinds { IfOk result (IsOfKinds key (Some value)) }
+    ensures err { IfErr result (λ fault. IsOrMemory fault (as_map (pairs_of key value (view pairs.now)))) }
 {
-    let Some(read) = read_pairs(alloc, key, value, pairs)? else {
+    let Some(read) = pairs_from_json(alloc, key, value, pairs)? else {
         return Err(NotationFault::Notation);
     };
     match AtomMap::of(alloc, read)? {
@@ -247,6 +270,8 @@ fn read_map(alloc: Global, key: Kind, value: Kind, pairs: &Value) -> Result<Datu
 pub fn from_json(alloc: Global, value: &Value, shape: Shape) -> Result<Datum, NotationFault>
     // What is read is what the value means.
     ensures ok { IfOk result (λ datum. datum_of shape (view value.now) ≡ Ok datum) }
+    // Its atoms are of the shape's kinds and stand in order.
+    ensures of_shape { IfOk result (IsOf shape) }
     // The value is in none of the forms of the shape, or an atom or a key stands twice.
     ensures err { IfErr result (λ fault. IsOrMemory fault (datum_of shape (view value.now))) }
 {

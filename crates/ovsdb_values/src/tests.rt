@@ -3,7 +3,7 @@ use serde_json::Value;
 use std::alloc::Global;
 use std::process::Abort;
 use std::test::Fail;
-use vtep_base::{Kind, Shape};
+use vtep_base::{Kind, List, Shape};
 
 type Wanted = Result<&'static str, NotationFault>;
 
@@ -31,6 +31,109 @@ fn reads(
             Err(fault) => assert_eq!(rt; Err(fault), *wanted),
         }
     }
+    Ok(())
+}
+
+/// This text's datum in a set or a map of these kinds.
+fn datum(alloc: Global, shape: Shape, text: &str) -> Result<Datum, Fail> {
+    let value = Value::from_str(alloc, text)?;
+    Ok(from_json(alloc, &value, shape)?)
+}
+
+/// All of both data, and what the first has without the second.
+fn joins(
+    rt: &impl Abort,
+    alloc: Global,
+    value: Option<Kind>,
+    cases: &[(&'static str, &'static str, &'static str, &'static str)],
+) -> Result<(), Fail> {
+    let shape = Shape {
+        key: Kind::Integer,
+        value,
+    };
+    for (one, two, all, rest) in cases {
+        let one = datum(alloc, shape, one)?;
+        let two = datum(alloc, shape, two)?;
+        let joined = one.with_all(alloc, &two)?;
+        let left = one.without_all(alloc, &two)?;
+        assert_eq!(rt;
+            to_json(alloc, &joined, shape)?.to_string(alloc)?.as_str(),
+            *all
+        );
+        assert_eq!(rt;
+            to_json(alloc, &left, shape)?.to_string(alloc)?.as_str(),
+            *rest
+        );
+        assert!(rt; joined == datum(alloc, shape, all)?);
+        assert!(rt; joined != left);
+    }
+    Ok(())
+}
+
+#[test]
+fn joins_sets(rt: HostRuntime) -> Result<(), Fail> {
+    let cases: [(&'static str, &'static str, &'static str, &'static str); 3] = [
+        ("[\"set\",[]]", "7", "7", "[\"set\",[]]"),
+        (
+            "[\"set\",[9,3]]",
+            "[\"set\",[4,3]]",
+            "[\"set\",[3,4,9]]",
+            "9",
+        ),
+        ("5", "5", "5", "[\"set\",[]]"),
+    ];
+    joins(&rt, rt.alloc(), None, &cases)
+}
+
+#[test]
+fn joins_maps(rt: HostRuntime) -> Result<(), Fail> {
+    let cases: [(&'static str, &'static str, &'static str, &'static str); 2] = [
+        (
+            "[\"map\",[[2,\"a\"]]]",
+            "[\"map\",[[1,\"c\"],[2,\"b\"]]]",
+            "[\"map\",[[1,\"c\"],[2,\"a\"]]]",
+            "[\"map\",[[2,\"a\"]]]",
+        ),
+        (
+            "[\"map\",[[1,\"a\"],[2,\"b\"]]]",
+            "[\"map\",[[2,\"b\"]]]",
+            "[\"map\",[[1,\"a\"],[2,\"b\"]]]",
+            "[\"map\",[[1,\"a\"]]]",
+        ),
+    ];
+    joins(&rt, rt.alloc(), Some(Kind::Text), &cases)
+}
+
+#[test]
+fn makes_sets(rt: HostRuntime) -> Result<(), Fail> {
+    let alloc = rt.alloc();
+    let mut atoms = List::new(alloc);
+    atoms.push(Atom::Integer(4))?;
+    atoms.push(Atom::Integer(-4))?;
+    atoms.push(Atom::Integer(4))?;
+    let set = AtomSet::merged(alloc, atoms)?;
+    assert_eq!(&rt; set.as_slice().len(), 2);
+    assert!(&rt; set.contains(&Atom::Integer(4)));
+    let four = AtomSet::one(alloc, Atom::Integer(4))?;
+    assert!(&rt; set.without_all(alloc, &four)? == AtomSet::one(alloc, Atom::Integer(-4))?);
+    assert!(&rt; AtomSet::new(alloc).with_all(alloc, &four)? == four);
+    Ok(())
+}
+
+#[test]
+fn makes_maps(rt: HostRuntime) -> Result<(), Fail> {
+    let alloc = rt.alloc();
+    let mut pairs = List::new(alloc);
+    pairs.push((Atom::Integer(1), Atom::Integer(20)))?;
+    pairs.push((Atom::Integer(0), Atom::Integer(10)))?;
+    pairs.push((Atom::Integer(1), Atom::Integer(30)))?;
+    let map = AtomMap::merged(alloc, pairs)?;
+    let one = Atom::Integer(1);
+    assert!(&rt; map.get(&one) == Some(&Atom::Integer(20)));
+    let rest = map.without_keys(alloc, &AtomSet::one(alloc, one.copy(alloc)?)?)?;
+    assert!(&rt; rest.get(&one) == None);
+    assert_eq!(&rt; rest.as_slice().len(), 1);
+    assert!(&rt; AtomMap::new(alloc).with_all(alloc, &rest)? == rest);
     Ok(())
 }
 

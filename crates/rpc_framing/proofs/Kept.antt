@@ -11,8 +11,8 @@ use Rattle.rpc_framing.specs.declared.scan.End.{End}
 use Rattle.rpc_framing.specs.declared.scan.End.TheVariants.{At, Open, Refused}
 use Rattle.rpc_framing.specs.Said.{Message, message_of, reading}
 use Rattle.rpc_framing.specs.Scan.{after_byte, end_from, end_of, at_start}
-use Rattle.rpc_framing.specs.Streams.{white, unwhite, is_white, past, Front, Waiting, Bad, Text, front, text_front, read_front, judged, Stream, fed, Answer, Waits, Gives, Refuses, Next, next, next_by}
-use Rattle.rpc_framing.specs.Pieces.{IsEnd, Comes, OneDivision, CutsDoNotMatter, StaysRefused}
+use Rattle.rpc_framing.specs.Streams.{white, unwhite, is_white, past, Front, Waiting, Bad, Text, front, text_front, read_front, judged, Stream, fed, Answer, Waits, Gives, Refuses, Next, next, next_by, answered}
+use Rattle.rpc_framing.specs.Pieces.{IsEnd, Comes, Coming, no_more, and_then, come_within, come, comes_after, OneDivision, CutsDoNotMatter, StaysRefused}
 use Rattle.rpc_framing.proofs.Scanned.{step}
 
 -- ---- where a text ends
@@ -34,12 +34,12 @@ halts limit i c (x ∷ a) b h = by ((after_byte c x).depth == 65) (i == limit) (
     by false false true h more = refl
     by false false false h more = more h
 
-abbrev IsWithin : ℕ → ℕ → End → Type 0
+abbrev pub IsWithin : ℕ → ℕ → End → Type 0
 IsWithin i most (At n) = (i < n) × (n ≤ most)
 IsWithin i most (Open c) = Unit {0}
 IsWithin i most (Refused j k) = Unit {0}
 
-ends_within : (limit i : ℕ) (c : Cursor) (a : Bytes) → IsWithin i (i + length a) (end_from limit c i a)
+pub ends_within : (limit i : ℕ) (c : Cursor) (a : Bytes) → IsWithin i (i + length a) (end_from limit c i a)
 ends_within limit i c [] = tt
 ends_within limit i c (x ∷ a) = by ((after_byte c x).depth == 65) (i == limit) ((after_byte c x).depth == 0) (wider (end_from limit (after_byte c x) (i + 1) a) (ends_within limit (i + 1) (after_byte c x) a))
   where
@@ -127,7 +127,7 @@ white_again (b ∷ bs) p = by (is_white b) refl (white_again bs p)
     by true e more = (omega (arith, more.0), more.1)
     by false e more = (rw e refl, rw e refl)
 
-past_past : (at a b : ℕ) → past (past at a) b ≡ past at (a + b)
+pub past_past : (at a b : ℕ) → past (past at a) b ≡ past at (a + b)
 past_past at a b = omega arith
 
 -- ---- one step of a stream
@@ -240,29 +240,70 @@ shorter s = by s.limit s.rest s.at s.refused
     by limit rest at None = by_front limit rest at (front limit (unwhite rest)) refl
     by limit rest at (Some f) = λ m e. absurd (cc)
 
-abbrev Some_come : Stream → Type 0
-Some_come s = (ms : List Message) × (end : Stream) × Comes s ms end
+shorter_left : (s : Stream) (m : Message) → (next s).answer ≡ Gives m → length (next s).left.rest < length s.rest
+shorter_left s m e = shorter s m e
 
-come : (turns : ℕ) (s : Stream) → length s.rest < turns → Some_come s
-come zero s h = absurd (omega (arith, h))
-come (suc turns) s h = by (next s).answer refl (come turns)
+comes_within : (turns : ℕ) (s : Stream) → length s.rest < turns → Comes s (come_within turns s).messages (come_within turns s).end
+comes_within zero s h = absurd (omega (arith, h))
+comes_within (suc turns) s h = by (next s).answer refl (λ less. comes_within turns (next s).left (omega (arith, less, h)))
   where
-    by : (a : Answer) → (next s).answer ≡ a → ((t : Stream) → length t.rest < turns → Some_come t) → Some_come s
-    by Waits e later = ([], (next s).left, (subst IsEnd (sym e) tt, refl))
-    by (Refuses f) e later = ([], (next s).left, (subst IsEnd (sym e) tt, refl))
-    by (Gives m) e later =
-        let less = shorter s m e in
-        let more = later (next s).left (omega (arith, less, h)) in
-        (m ∷ more.0, more.1, (e, more.2))
+    among : Answer → Coming
+    among a = elim a [ Gives m ↦ and_then m (come_within turns (next s).left) | Waits ↦ no_more (next s).left | Refuses f ↦ no_more (next s).left ]
+
+    by : (a : Answer) → (next s).answer ≡ a
+        → (length (next s).left.rest < length s.rest → Comes (next s).left (come_within turns (next s).left).messages (come_within turns (next s).left).end)
+        → Comes s (among a).messages (among a).end
+    by Waits e later = (subst IsEnd (sym e) tt, refl)
+    by (Refuses f) e later = (subst IsEnd (sym e) tt, refl)
+    by (Gives m) e later = (e, later (shorter_left s m e))
+
+pub all_come : (s : Stream) → Comes s (come s).messages (come s).end
+all_come s = comes_within (suc (length s.rest)) s (omega arith)
+
+pub come_is : (s end : Stream) (ms : List Message) → Comes s ms end → come s ≡ record { messages = ms; end = end }
+come_is s end ms c =
+    let same = unique s end (come s).end ms (come s).messages c (all_come s) in
+    ap (λ ms. record { messages = ms; end = (come s).end }) same.0 ∙ ap (λ e. record { messages = ms; end = e }) same.1
 
 pub one_division : (s : Stream) → OneDivision s
-one_division s =
-    let all = come (length s.rest + 1) s (omega arith) in record {
-      messages = all.0;
-      end = all.1;
-      comes = all.2;
-      only = λ ms t c. unique s all.1 t all.0 ms all.2 c;
-    }
+one_division s ms end = (come_is s end ms, λ e. subst (λ c. Comes s c.messages c.end) e (all_come s))
+
+-- ---- one message, or none
+
+pub comes_next : (s left : Stream) (o : Option Message) → next s ≡ record { answer = answered o; left = left } → come s ≡ comes_after o left
+comes_next s left None e = come_is s left [] (subst (λ n. IsEnd n.answer × (n.left ≡ left)) (sym e) (tt, refl))
+comes_next s left (Some m) e = come_is s (come left).end (m ∷ (come left).messages) (subst (λ n. (n.answer ≡ Gives m) × Comes n.left (come left).messages (come left).end) (sym e) (refl, all_come left))
+
+pub comes_refused : (s left : Stream) (f : Framing) → next s ≡ record { answer = Refuses f; left = left } → come s ≡ no_more left
+comes_refused s left f e = come_is s left [] (subst (λ n. IsEnd n.answer × (n.left ≡ left)) (sym e) (tt, refl))
+
+abbrev IsFree : Next → Type 0
+IsFree n = n.answer ≡ Waits → n.left.refused ≡ None
+
+free_by : (limit : ℕ) (bytes : Bytes) (at : ℕ) (f : Front) → IsFree (next_by limit bytes at f)
+free_by limit bytes at Waiting e = refl
+free_by limit bytes at (Bad i k) e = absurd (cc)
+free_by limit bytes at (Text n m) e = absurd (cc)
+
+free : (s : Stream) → IsFree (next s)
+free s = by s.limit s.rest s.at s.refused
+  where
+    by : (limit : ℕ) (rest : Bytes) (at : ℕ) (r : Option Framing) → IsFree (next (record { limit = limit; rest = rest; at = at; refused = r }))
+    by limit rest at None = free_by limit (unwhite rest) (past at (white rest)) (front limit (unwhite rest))
+    by limit rest at (Some f) = λ e. absurd (cc)
+
+-- a stream that waits is not refused
+pub waits_next : (s left : Stream) → next s ≡ record { answer = answered None; left = left } → left.refused ≡ None
+waits_next s left e = subst IsFree e (free s) refl
+
+abbrev pub IsShorter : Stream → Stream → Option Message → Type 0
+IsShorter s left None = Unit {0}
+IsShorter s left (Some m) = length left.rest < length s.rest
+
+pub shorter_next : (s left : Stream) (o : Option Message) → next s ≡ record { answer = answered o; left = left } → IsShorter s left o
+shorter_next s left None e = tt
+shorter_next s left (Some m) e =
+    let less = shorter_left s m (ap (λ n. n.answer) e) in subst (λ n. length n.left.rest < length s.rest) e less
 
 same_refusal : (f g : Framing) → ◌≡◌ {A = Answer} (Refuses f) (Refuses g) → f ≡ g
 same_refusal f g e = cc

@@ -5,3 +5,4 @@ pub mod Kept
 pub mod Texts
 pub mod Worked
 pub mod Divided
+pub mod Whole

@@ -22,8 +22,11 @@ bad_json = refl
 not_object : (next (fed (opened 10) (codes " \n;"))).answer ≡ Refuses (record { offset = 2; kind = NotObject })
 not_object = refl
 
-too_deep : (next (fed (opened 64) (123 ∷ replicate 65 91))).answer ≡ Refuses (record { offset = 64; kind = TooDeep })
+too_deep : (next (fed (opened 1000) (123 ∷ replicate 65 91))).answer ≡ Refuses (record { offset = 64; kind = TooDeep })
 too_deep = refl
+
+too_deep_and_too_long : (next (fed (opened 64) (123 ∷ replicate 65 91))).answer ≡ Refuses (record { offset = 64; kind = TooDeep })
+too_deep_and_too_long = refl
 
 brackets_in_text : (next (fed (opened 1000) (codes " {\"method\":\"echo\",\"params\":[\"\\\"}[\"],\"id\":1} {"))).answer
     ≡ Gives (Request (codes "echo") (array (item (string (codes "\"}[")) no_items)) (number (unsigned 1)))

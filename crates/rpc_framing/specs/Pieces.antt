@@ -1,5 +1,5 @@
 -- A stream that is taken piece by piece.
-use Rattle.std.specs.Prelude.{◌≡◌, List, [], ◌∷◌, ◌++◌}
+use Rattle.std.specs.Prelude.{◌≡◌, ◌↔◌, ℕ, zero, suc, List, [], ◌∷◌, ◌++◌, length, Option, Some, None}
 use Rattle.vtep_base.specs.Reading.{Bytes}
 use Rattle.rpc_framing.specs.Said.{Message}
 use Rattle.rpc_framing.specs.Streams.{Stream, fed, Answer, Waits, Gives, Refuses, next}
@@ -16,12 +16,34 @@ abbrev pub Comes : Stream → List Message → Stream → Type 0
 Comes s [] end = IsEnd (next s).answer × ((next s).left ≡ end)
 Comes s (m ∷ ms) end = ((next s).answer ≡ Gives m) × Comes (next s).left ms end
 
--- each stream has messages and an end, and no others
-pub record OneDivision (s : Stream) : Type 0 where
+-- the messages of a stream in turn, and what is left of it, which waits or is refused
+pub record Coming : Type 0 where
   pub messages : List Message
   pub end : Stream
-  pub comes : Comes s messages end
-  pub only : (ms : List Message) (t : Stream) → Comes s ms t → (ms ≡ messages) × (t ≡ end)
+
+abbrev pub no_more : Stream → Coming
+no_more end = record { messages = []; end = end }
+
+abbrev pub and_then : Message → Coming → Coming
+and_then m more = record { messages = m ∷ more.messages; end = more.end }
+
+abbrev pub come_within : ℕ → Stream → Coming
+come_within zero s = no_more s
+come_within (suc turns) s =
+    elim (next s).answer [ Gives m ↦ and_then m (come_within turns (next s).left) | Waits ↦ no_more (next s).left | Refuses f ↦ no_more (next s).left ]
+
+-- a message has a byte at least
+abbrev pub come : Stream → Coming
+come s = come_within (suc (length s.rest)) s
+
+-- what comes, where a message was taken or none is there
+abbrev pub comes_after : Option Message → Stream → Coming
+comes_after None left = no_more left
+comes_after (Some m) left = and_then m (come left)
+
+-- each stream has these messages and this end, and no others
+abbrev pub OneDivision : Stream → Type 0
+OneDivision s = (ms : List Message) (end : Stream) → Comes s ms end ↔ (come s ≡ record { messages = ms; end = end })
 
 -- taking what comes before a further piece changes nothing of what comes
 abbrev pub CutsDoNotMatter : Type 0

@@ -6,10 +6,12 @@
 //! place where the rest begins. The rest is moved to the buffer's front where more bytes stand before it than it has, so
 //! each byte that was taken off pays for one that is moved.
 
-ghost use Rattle.std.specs.Prelude.{◌≡◌, ◌≤◌, ℕ, drop, length, None, option_map, IfOk, Err, OnOk, OnErr};
+ghost use Rattle.std.specs.Prelude.{◌≡◌, ◌≤◌, ◌<◌, ℕ, false, drop, length, Some, None, option_map, IfOk, IfSome, IfNone, Err, OnOk, OnErr};
 ghost use Rattle.rpc_framing.specs.Said.{said};
 ghost use Rattle.rpc_framing.specs.Division.{WhatStandsComes};
-ghost use Rattle.rpc_framing.specs.Pieces.{OneDivision, CutsDoNotMatter, StaysRefused};
+ghost use Rattle.serde_json.specs.Written.{has_float};
+ghost use Rattle.rpc_framing.specs.Written.{message_json};
+ghost use Rattle.rpc_framing.specs.Pieces.{come, comes_after, no_more, OneDivision, CutsDoNotMatter, StaysRefused};
 ghost use Rattle.rpc_framing.specs.Streams.{Stream, white, past, opened, fed, next, answered, Refuses};
 
 use crate::reading::{Front, find_front};
@@ -106,8 +108,8 @@ impl Framer {
         Ok(())
     }
 
-    /// Takes the first message off the stream, or says where and why none can come. None where no whole one is there yet.
-    pub fn next(&mut self) -> Result<Option<Message>, NextFault>
+    /// Takes the first message off the stream, or says where and why none can come.
+    fn take(&mut self) -> Result<Option<Message>, NextFault>
         ensures ok { IfOk result (λ o. next self.old ≡ record { answer = answered (option_map said o); left = self.new }) }
         ensures refused { (f : Framing) → result ≡ Err (NextFault.Refused f) → next self.old ≡ record { answer = Refuses f; left = self.new } }
         ensures memory { result ≡ Err NextFault.OutOfMemory → self.new ≡ self.old }
@@ -152,6 +154,23 @@ impl Framer {
             }
         }
     }
+
+    /// Takes the first message off the stream, or says where and why none can come. None where no whole one is there yet.
+    /// A message that comes has no fraction.
+    pub fn next(&mut self) -> Result<Option<Message>, NextFault>
+        ensures ok { IfOk result (λ o. next self.old ≡ record { answer = answered (option_map said o); left = self.new }) }
+        ensures refused { (f : Framing) → result ≡ Err (NextFault.Refused f) → next self.old ≡ record { answer = Refuses f; left = self.new } }
+        ensures memory { result ≡ Err NextFault.OutOfMemory → self.new ≡ self.old }
+
+        // What comes is this message, and what comes of what is left. That is less.
+        ensures comes { IfOk result (λ o. come self.old ≡ comes_after (option_map said o) self.new) }
+        ensures ends { (f : Framing) → result ≡ Err (NextFault.Refused f) → (come self.old ≡ no_more self.new) × (self.new.refused ≡ Some f) }
+        ensures waits { IfOk result (λ o. IfNone o (self.new.refused ≡ None)) }
+        ensures shorter { IfOk result (λ o. IfSome o (λ _. length self.new.rest < length self.old.rest)) }
+        ensures plain { IfOk result (λ o. IfSome o (λ m. has_float (message_json (said m)) ≡ false)) }
+    {
+        self.take()
+    }
 }
 
 /// A law: for each stream exactly one list of messages comes, and then it waits or is refused.
@@ -159,7 +178,8 @@ pub fn one_division()
     ensures { (s : Stream) → OneDivision s }
 {}
 
-/// A law: what stands in a stream, white space and whole texts in turn, comes before all else.
+/// A law: what comes from a stream is what stands in it, white space and whole texts in turn, and then the beginning of
+/// a text or a fault.
 pub fn what_stands_comes()
     ensures { WhatStandsComes }
 {}

@@ -66,6 +66,10 @@ Takes old new buffer (took.Took n) = TakesPiece old new (length buffer) buffer n
 Takes old new buffer took.End = TakesEnd old new
 Takes old new buffer took.Failed = TakesFault old new
 
+abbrev pub IsFailed : Took → Type 0
+IsFailed took.Failed = Unit {0}
+IsFailed _ = ⊥
+
 -- a sink: the bytes written and the count of its faults
 pub record SinkState : Type 0 where
   pub written : Option Bytes
@@ -86,6 +90,11 @@ pub record PutsFault (old new : SinkState) : Type 0 where
 abbrev pub Puts : SinkState → SinkState → Bytes → Put → Type 0
 Puts old new piece (put.Put n) = PutsPiece old new piece n
 Puts old new piece put.Failed = PutsFault old new
+
+-- a piece of n bytes was put whole, or not at all
+abbrev pub IsWhole : Put → ℕ → Type 0
+IsWhole (put.Put n) size = n ≡ size
+IsWhole put.Failed size = Unit {0}
 
 -- a reader whose bytes are known lost those that were taken
 abbrev pub TakesOf : Option Bytes → Option Bytes → Bytes → Took → Type 0

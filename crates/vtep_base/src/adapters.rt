@@ -15,7 +15,12 @@ pub struct ReadSource<R: Read + Drop> {
 }
 
 impl<R: Read + Drop> ReadSource<R> {
-    pub fn new(reader: R) -> ReadSource<R> {
+    /// Nothing was taken from the reader, and no fault and no End is counted.
+    pub fn new(reader: R) -> ReadSource<R>
+        ensures reader { result.reader ≡ reader }
+        ensures faults { ⟦<ReadSource<R> as Source>⟧.faults result ≡ 0 }
+        ensures ends { ⟦<ReadSource<R> as Source>⟧.ends result ≡ 0 }
+    {
         ReadSource {
             reader,
             faults: 0,
@@ -63,7 +68,11 @@ pub struct WriteSink<W: Write + Drop> {
 }
 
 impl<W: Write + Drop> WriteSink<W> {
-    pub fn new(writer: W) -> WriteSink<W> {
+    /// Nothing was put into the writer, and no fault is counted.
+    pub fn new(writer: W) -> WriteSink<W>
+        ensures writer { result.writer ≡ writer }
+        ensures faults { ⟦<WriteSink<W> as Sink>⟧.faults result ≡ 0 }
+    {
         WriteSink { writer, faults: 0 }
     }
 }

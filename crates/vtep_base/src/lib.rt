@@ -12,6 +12,7 @@ mod names;
 mod numbers;
 mod outside;
 mod reading;
+mod room;
 mod shapes;
 mod words;
 
@@ -26,6 +27,7 @@ pub use names::Name;
 pub use numbers::{Ipv4, Vlan, Vni, parse_number};
 pub use outside::{Put, Sink, Source, Took};
 pub use reading::TextFault;
+pub use room::RoomyBytes;
 pub use shapes::{Action, Direction, Kind, Shape};
 pub use words::Word;
 

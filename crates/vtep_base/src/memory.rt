@@ -1,7 +1,8 @@
 //! The outside in memory, with faults at chosen calls.
 
-ghost use Rattle.std.specs.Prelude.{◌≡◌, ◌<◌, ◌≤◌, ◌+◌, ◌^◌, ◌⊎◌, Some, None, min, take, [], length, slice_index_or, IfNone, IfSome};
-ghost use Rattle.vtep_base.specs.Outside.{SourceState, Takes, Puts};
+ghost use Rattle.std.specs.List.{list_any};
+ghost use Rattle.std.specs.Prelude.{◌≡◌, ◌==◌, ◌↔◌, ◌<◌, ◌≤◌, ◌+◌, ◌^◌, ◌⊎◌, IsTrue, Some, None, min, take, [], length, slice_index_or, IfNone, IfSome};
+ghost use Rattle.vtep_base.specs.Outside.{SourceState, SinkState, Takes, Puts, counted, IsFailed, IsWhole};
 ghost use Rattle.vtep_base.specs.Memory.{joined, left_at, taken_at, TakesOne};
 
 use crate::lists::{Bytes, List};
@@ -27,6 +28,8 @@ impl MemorySource {
         ensures taken { taken_at result.pieces result.place result.offset ≡ [] }
         ensures faults { result.faults ≡ 0 }
         ensures ends { result.ends ≡ 0 }
+        ensures fails { result.fails ≡ fails }
+        ensures number { result.takes ≡ 0 }
     {
         MemorySource {
             pieces,
@@ -96,7 +99,17 @@ impl Source for MemorySource {
 
     ghost ends = { λ s. s.ends };
 
-    fn take(&mut self, buffer: &mut [u8]) -> Took {
+    fn take(&mut self, buffer: &mut [u8]) -> Took
+        requires { 0 < length buffer.old }
+        ensures takes { Takes
+            (record { left = Some (left_at self.old.pieces self.old.place self.old.offset); taken = Some (taken_at self.old.pieces self.old.place self.old.offset); faults = self.old.faults; ends = self.old.ends })
+            (record { left = Some (left_at self.new.pieces self.new.place self.new.offset); taken = Some (taken_at self.new.pieces self.new.place self.new.offset); faults = self.new.faults; ends = self.new.ends })
+            buffer.new result }
+        // Exactly the takes whose numbers are listed fail.
+        ensures failed { IsFailed result ↔ IsTrue (list_any (λ n. n == self.old.takes) self.old.fails) }
+        ensures fails { self.new.fails ≡ self.old.fails }
+        ensures number { self.new.takes ≡ counted self.old.takes }
+    {
         let number = self.takes;
         self.takes = self.takes.saturating_add(1);
         if self.fails.as_slice().contains(&number) {
@@ -129,6 +142,8 @@ impl MemorySink {
     pub fn new(alloc: Global, fails: List<u64>) -> MemorySink
         ensures written { result.written ≡ [] }
         ensures faults { result.faults ≡ 0 }
+        ensures fails { result.fails ≡ fails }
+        ensures number { result.puts ≡ 0 }
     {
         MemorySink {
             written: Bytes::new(alloc),
@@ -144,7 +159,18 @@ impl Sink for MemorySink {
 
     ghost faults = { λ s. s.faults };
 
-    fn put(&mut self, piece: &[u8]) -> Put {
+    fn put(&mut self, piece: &[u8]) -> Put
+        requires { 0 < length piece.now }
+        ensures puts { Puts
+            (record { written = Some self.old.written; faults = self.old.faults })
+            (record { written = Some self.new.written; faults = self.new.faults })
+            piece.now result }
+        // The puts whose numbers are listed fail; others fail for want of memory alone, and what is put is put whole.
+        ensures failed { IsTrue (list_any (λ n. n == self.old.puts) self.old.fails) → result ≡ Put.Failed }
+        ensures whole { IsWhole result (length piece.now) }
+        ensures fails { self.new.fails ≡ self.old.fails }
+        ensures number { self.new.puts ≡ counted self.old.puts }
+    {
         let number = self.puts;
         self.puts = self.puts.saturating_add(1);
         if self.fails.as_slice().contains(&number) {

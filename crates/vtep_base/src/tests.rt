@@ -107,13 +107,13 @@ fn parses_names(rt: HostRuntime) -> Result<(), Fail> {
 
 #[test]
 fn words_of_refusal(rt: HostRuntime) -> Result<(), Fail> {
-    let cases: [(Word, &[u8]); 3] = [
-        (Word::SyntaxError, b"syntax error"),
+    let cases: [(Word, &'static str); 3] = [
+        (Word::SyntaxError, "syntax error"),
         (
             Word::ReferentialIntegrityViolation,
-            b"referential integrity violation",
+            "referential integrity violation",
         ),
-        (Word::UnknownMethod, b"unknown method"),
+        (Word::UnknownMethod, "unknown method"),
     ];
     for (word, wanted) in &cases {
         assert_eq!(rt; word.text(), *wanted);

@@ -42,28 +42,28 @@ pub enum Word {
 
 impl Word {
     /// The word as it stands in replies.
-    pub fn text(self) -> &'static [u8]
+    pub fn text(self) -> &'static str
         ensures { result.now ≡ word_text self }
     {
         match self {
-            Word::SyntaxError => b"syntax error",
-            Word::NotSupported => b"not supported",
-            Word::UnknownTable => b"unknown table",
-            Word::UnknownColumn => b"unknown column",
-            Word::PermissionError => b"permission error",
-            Word::DuplicateUuidName => b"duplicate uuid-name",
-            Word::UnknownUuidName => b"unknown uuid-name",
-            Word::ConstraintViolation => b"constraint violation",
-            Word::DomainError => b"domain error",
-            Word::RangeError => b"range error",
-            Word::TimedOut => b"timed out",
-            Word::Aborted => b"aborted",
-            Word::ReferentialIntegrityViolation => b"referential integrity violation",
-            Word::UnknownDatabase => b"unknown database",
-            Word::DuplicateMonitor => b"duplicate monitor",
-            Word::ResourcesExhausted => b"resources exhausted",
-            Word::UnknownMonitor => b"unknown monitor",
-            Word::UnknownMethod => b"unknown method",
+            Word::SyntaxError => "syntax error",
+            Word::NotSupported => "not supported",
+            Word::UnknownTable => "unknown table",
+            Word::UnknownColumn => "unknown column",
+            Word::PermissionError => "permission error",
+            Word::DuplicateUuidName => "duplicate uuid-name",
+            Word::UnknownUuidName => "unknown uuid-name",
+            Word::ConstraintViolation => "constraint violation",
+            Word::DomainError => "domain error",
+            Word::RangeError => "range error",
+            Word::TimedOut => "timed out",
+            Word::Aborted => "aborted",
+            Word::ReferentialIntegrityViolation => "referential integrity violation",
+            Word::UnknownDatabase => "unknown database",
+            Word::DuplicateMonitor => "duplicate monitor",
+            Word::ResourcesExhausted => "resources exhausted",
+            Word::UnknownMonitor => "unknown monitor",
+            Word::UnknownMethod => "unknown method",
         }
     }
 }

@@ -1,5 +1,5 @@
 -- The written form is a packet.
-use Rattle.std.proofs.Common.{◌≡◌, ℕ, ◌+◌, ◌*◌, ◌/◌, ◌%◌, ◌^◌, ◌≤◌, ◌<◌, [], ◌++◌, length, take, drop, Result, Ok, Err, OnOk, refl, sym, ap, subst, ◌∙◌, arith}
+use Rattle.std.proofs.Common.{◌≡◌, ℕ, ◌+◌, ◌*◌, ◌/◌, ◌%◌, ◌^◌, ◌≤◌, ◌<◌, List, [], ◌++◌, length, take, drop, Result, Ok, Err, OnOk, refl, sym, ap, subst, ◌∙◌, append_assoc, arith}
 use Rattle.std.proofs.lemmas.List.{append-nil, take-append-drop}
 use Rattle.vtep_base.specs.Reading.{Bytes}
 use Rattle.vxlan_frames.specs.Packets.{summed_header, udp_header, vxlan_header, source_port, canon, packet_of, IsPacket, IsIpHeader, AreTunnelHeaders, IsInner}
@@ -73,3 +73,11 @@ parts_written src dst vni size port inner header udp vxlan addresses rest s p a 
 pub on_ok : {T E P Q : Type 0} (r : Result T E) → (P → Q) → OnOk r P → OnOk r Q
 on_ok (Ok x) f p = f p
 on_ok (Err e) f p = tt
+
+-- parts that are added one after another are those of the written form
+pub added : (before header udp vxlan addresses rest written one two three four all : List ℕ)
+    → one ≡ before ++ header → two ≡ one ++ udp → three ≡ two ++ vxlan → four ≡ three ++ addresses → all ≡ four ++ rest
+    → header ++ (udp ++ (vxlan ++ (addresses ++ (rest ++ [])))) ≡ written → all ≡ before ++ written
+added before header udp vxlan addresses rest written one two three four all a b c d e parts =
+    let joined : header ++ (udp ++ (vxlan ++ (addresses ++ rest))) ≡ written = ap (λ r. header ++ (udp ++ (vxlan ++ (addresses ++ r)))) (sym (append-nil rest)) ∙ parts in
+    rw (e, d, c, b, a) (simp append_assoc (ap (λ x. before ++ x) joined))

@@ -4,7 +4,7 @@
 ghost use Rattle.std.specs.Prelude.{◌≡◌, ◌≤◌, ◌<◌, ◌+◌, ◌^◌, ◌*◌, ◌%◌, ◌++◌, length, sum, false, Ok, Err, IfOk, IsOkAnd, MatchResult, OnOk, OnErr, ℕ, List};
 ghost use Rattle.vxlan_frames.specs.Packets.{IsPacket, IsInner, word, three_bytes, four_bytes, tag_at, ones_add, ones_sum, header_length, total_length, udp_length, lengths_checked, header_checked, udp_checked, inner_checked, packet_of, ip_header, summed_header, source_port, udp_header, vxlan_header, canon};
 
-use vtep_base::{Bytes, Inner, Ipv4, OutOfMemory, Vni};
+use vtep_base::{Bytes, Inner, Ipv4, OutOfMemory, RoomyBytes, Vni};
 
 /// Why bytes are no packet.
 #[derive(Clone, Copy, Debug, PartialEq, Eq)]
@@ -383,6 +383,26 @@ pub fn encode(
     let udp = udp_header(source_port(inner), size);
     let vxlan = vxlan_header(vni);
     out.append_all(&[&header, &udp, &vxlan, inner.addresses(), inner.rest()])
+}
+
+/// Appends the one written form where there is room for its 36 bytes of headers and the inner frame. Takes no memory.
+pub fn encode_within(src: Ipv4, dst: Ipv4, vni: Vni, inner: &Inner<'_>, out: &mut RoomyBytes)
+    requires least { 14 ≤ length inner.now }
+    requires most { length inner.now ≤ 9216 }
+    requires untagged { tag_at inner.now 12 ≡ false }
+    requires room { 36 + length inner.now ≤ out.old.1 }
+    ensures bytes { out.new.0 ≡ out.old.0 ++ canon src dst vni inner.now }
+    ensures room { out.old.1 ≤ out.new.1 + (36 + length inner.now) }
+{
+    let size = inner.len() as u16;
+    let header = summed_header(36 + size, src, dst);
+    let udp = udp_header(source_port(inner), size);
+    let vxlan = vxlan_header(vni);
+    out.append(&header);
+    out.append(&udp);
+    out.append(&vxlan);
+    out.append(inner.addresses());
+    out.append(inner.rest());
 }
 
 /// A law: the written form is a packet that says what it was made of, and decoding it gives that back.

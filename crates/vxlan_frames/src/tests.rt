@@ -343,6 +343,15 @@ fn writes(rt: HostRuntime) -> Result<(), Fail> {
             &mut out,
         )?;
         assert_eq!(rt; out.as_slice(), *wanted);
+        let mut within = RoomyBytes::new(Bytes::new(rt.alloc()), 36 + inner.len())?;
+        encode_within(
+            Ipv4::from_bits(*src),
+            Ipv4::from_bits(*dst),
+            Vni::new(*vni),
+            &inner,
+            &mut within,
+        );
+        assert_eq!(rt; within.into_bytes().as_slice(), *wanted);
     }
     Ok(())
 }

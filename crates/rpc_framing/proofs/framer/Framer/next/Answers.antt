@@ -1,9 +1,14 @@
-use Rattle.std.proofs.Common.{drop}
-use Rattle.rpc_framing.proofs.Held.{held_behind_white}
+use Rattle.rpc_framing.proofs.Whole.{ok_comes, ok_waits, ok_shorter, ok_plain}
 use Rattle.rpc_framing.proofs.framer.Framer.next.Goals as goal
 
-pub find_front-requires : goal.find_front-requires
-find_front-requires c = record {
-  held = rw (c.split_at-2.ensures.back, c.white-space.ensures.value, c.split_at.ensures.back, c.as_slice.ensures.value)
-      (held_behind_white c.self.inside.limit (drop c.self.inside.start c.self.inside.bytes.items) c.self.inside.count c.self.inside.cursor c.self.invariant.held);
-}
+pub returns-clause-comes : goal.returns-clause-comes
+returns-clause-comes c = ok_comes c.args.self.now c.take.new.self c.take.result c.take.ensures.ok
+
+pub returns-clause-waits : goal.returns-clause-waits
+returns-clause-waits c = ok_waits c.args.self.now c.take.new.self c.take.result c.take.ensures.ok
+
+pub returns-clause-shorter : goal.returns-clause-shorter
+returns-clause-shorter c = ok_shorter c.args.self.now c.take.new.self c.take.result c.take.ensures.ok
+
+pub returns-clause-plain : goal.returns-clause-plain
+returns-clause-plain c = ok_plain c.args.self.now c.take.new.self c.take.result c.take.ensures.ok

@@ -1,5 +1,0 @@
-use Rattle.std.proofs.Common.{◌≡◌, ◌++◌}
-use Rattle.ovsdb_values.proofs.datums.in_order.Given as goal
-
-abbrev pub invariant-ordered : goal.invariant-ordered
-invariant-ordered l = l.atoms.items ++ l.atom-iterator ≡ l.fn.ordered.keys

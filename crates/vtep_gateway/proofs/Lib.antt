@@ -1,0 +1,4 @@
+pub mod Taken
+pub mod Open
+pub mod Answered
+pub mod Worked

@@ -1,0 +1,9 @@
+use Rattle.std.proofs.Common.{length}
+use Rattle.vtep_gateway.proofs.Taken.{StillTakes}
+use Rattle.vtep_gateway.proofs.vtep.Vtep.take_all.Given as goal
+
+abbrev pub invariant-messages : goal.invariant-messages
+invariant-messages l = StillTakes l.session l.self l.fn.self l.framer l.fn.framer l.sends l.fn.sends
+
+abbrev pub decreases-messages : goal.decreases-messages
+decreases-messages l = length l.framer.rest

@@ -1,0 +1,5 @@
+pub mod Vtep
+pub mod Gateway
+pub mod Methods
+pub mod Sessions
+pub mod Moves
