@@ -1,0 +1,5 @@
+mod Counting
+mod JsonLists
+mod Pushing
+mod Tables
+mod Worked

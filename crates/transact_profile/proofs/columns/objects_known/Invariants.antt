@@ -1,0 +1,7 @@
+use Rattle.std.proofs.Common.{◌≡◌, map, drop}
+use Rattle.serde_json.specs.View.{view}
+use Rattle.transact_profile.specs.Operations.{objects_known}
+use Rattle.transact_profile.proofs.columns.objects_known.Given as goal
+
+abbrev pub invariant-values : goal.invariant-values
+invariant-values l = objects_known l.table (map view (drop l.value-index l.values)) ≡ objects_known l.table (map view l.values)

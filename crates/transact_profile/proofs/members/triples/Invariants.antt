@@ -1,0 +1,8 @@
+use Rattle.std.proofs.Common.{◌≡◌, map, drop}
+use Rattle.std.specs.List.{list_all}
+use Rattle.serde_json.specs.View.{view}
+use Rattle.transact_profile.specs.Members.{is_triple}
+use Rattle.transact_profile.proofs.members.triples.Given as goal
+
+abbrev pub invariant-values : goal.invariant-values
+invariant-values l = list_all is_triple (map view (drop l.value-index l.values)) ≡ list_all is_triple (map view l.values)

@@ -1,0 +1,9 @@
+pub mod Refusing
+pub mod Members
+pub mod Values
+pub mod Operations
+pub mod Transaction
+pub mod Conditions
+pub mod Mutations
+pub mod Meaning
+pub mod Finish
