@@ -1,5 +1,5 @@
 //! The same work as the program's, written plainly over the standard library: what a proof costs is measured beside it.
-use std::collections::BTreeMap;
+use std::collections::{BTreeMap, HashSet};
 use std::io::{self, BufRead, Write};
 
 struct Plain {
@@ -9,6 +9,24 @@ struct Plain {
     switches: BTreeMap<String, u32>,
     bindings: BTreeMap<(String, String, u16), String>,
     installed: Vec<(String, u16, String)>,
+    sessions: BTreeMap<u32, Vec<u8>>,
+    database: Database,
+}
+
+/// What is kept of rows: how many identifiers were given, and the switches' unique names and tunnel keys.
+struct Database {
+    counter: u64,
+    switches: HashSet<String>,
+    tunnel_keys: HashSet<i64>,
+}
+
+enum Json {
+    Null,
+    Bool(bool),
+    Number(i64),
+    Text(String),
+    List(Vec<Json>),
+    Object(BTreeMap<String, Json>),
 }
 
 struct Refusal {
@@ -121,7 +139,269 @@ fn tagged(vlan: u16, inner: &[u8]) -> Vec<u8> {
     [&inner[..12], &[0x81, 0], &vlan.to_be_bytes(), &inner[12..]].concat()
 }
 
+struct Reader<'a> {
+    text: &'a [u8],
+    at: usize,
+}
+
+impl Reader<'_> {
+    fn space(&mut self) {
+        while self.text.get(self.at).is_some_and(|b| b" \t\r\n".contains(b)) {
+            self.at += 1;
+        }
+    }
+
+    fn eat(&mut self, word: &[u8]) -> Option<()> {
+        self.text[self.at..].starts_with(word).then(|| self.at += word.len())
+    }
+
+    fn string(&mut self) -> Option<String> {
+        self.eat(b"\"")?;
+        let mut bytes = Vec::new();
+        loop {
+            let byte = *self.text.get(self.at)?;
+            self.at += 1;
+            match byte {
+                b'"' => return String::from_utf8(bytes).ok(),
+                b'\\' => {
+                    bytes.push(match *self.text.get(self.at)? {
+                        b'n' => b'\n',
+                        b't' => b'\t',
+                        b'r' => b'\r',
+                        other @ (b'"' | b'\\' | b'/') => other,
+                        _ => return None,
+                    });
+                    self.at += 1;
+                }
+                _ => bytes.push(byte),
+            }
+        }
+    }
+
+    fn number(&mut self) -> Option<Json> {
+        let rest = &self.text[self.at..];
+        let length = rest.iter().position(|b| !matches!(b, b'-' | b'0'..=b'9')).unwrap_or(rest.len());
+        self.at += length;
+        std::str::from_utf8(&rest[..length]).ok()?.parse().ok().map(Json::Number)
+    }
+
+    fn items(&mut self, close: u8, mut item: impl FnMut(&mut Self) -> Option<()>) -> Option<()> {
+        self.at += 1;
+        self.space();
+        if self.text.get(self.at) == Some(&close) {
+            self.at += 1;
+            return Some(());
+        }
+        loop {
+            item(self)?;
+            self.space();
+            self.at += 1;
+            match self.text.get(self.at - 1)? {
+                b',' => self.space(),
+                last if *last == close => return Some(()),
+                _ => return None,
+            }
+        }
+    }
+
+    fn value(&mut self) -> Option<Json> {
+        self.space();
+        match self.text.get(self.at)? {
+            b'{' => {
+                let mut object = BTreeMap::new();
+                self.items(b'}', |reader| {
+                    let key = reader.string()?;
+                    reader.space();
+                    reader.eat(b":")?;
+                    object.insert(key, reader.value()?);
+                    Some(())
+                })?;
+                Some(Json::Object(object))
+            }
+            b'[' => {
+                let mut list = Vec::new();
+                self.items(b']', |reader| {
+                    list.push(reader.value()?);
+                    Some(())
+                })?;
+                Some(Json::List(list))
+            }
+            b'"' => self.string().map(Json::Text),
+            b'n' => self.eat(b"null").map(|()| Json::Null),
+            b't' => self.eat(b"true").map(|()| Json::Bool(true)),
+            b'f' => self.eat(b"false").map(|()| Json::Bool(false)),
+            _ => self.number(),
+        }
+    }
+}
+
+impl Json {
+    fn member(&self, key: &str) -> Option<&Json> {
+        match self {
+            Json::Object(object) => object.get(key),
+            _ => None,
+        }
+    }
+
+    fn text(&self) -> Option<&str> {
+        match self {
+            Json::Text(text) => Some(text),
+            _ => None,
+        }
+    }
+
+    fn write(&self, out: &mut Vec<u8>) {
+        match self {
+            Json::Null => out.extend_from_slice(b"null"),
+            Json::Bool(true) => out.extend_from_slice(b"true"),
+            Json::Bool(false) => out.extend_from_slice(b"false"),
+            Json::Number(number) => out.extend_from_slice(number.to_string().as_bytes()),
+            Json::Text(text) => write_text(text, out),
+            Json::List(list) => {
+                out.push(b'[');
+                for (at, item) in list.iter().enumerate() {
+                    if at > 0 {
+                        out.push(b',');
+                    }
+                    item.write(out);
+                }
+                out.push(b']');
+            }
+            Json::Object(object) => {
+                out.push(b'{');
+                for (at, (key, item)) in object.iter().enumerate() {
+                    if at > 0 {
+                        out.push(b',');
+                    }
+                    write_text(key, out);
+                    out.push(b':');
+                    item.write(out);
+                }
+                out.push(b'}');
+            }
+        }
+    }
+}
+
+fn write_text(text: &str, out: &mut Vec<u8>) {
+    out.push(b'"');
+    for byte in text.bytes() {
+        if matches!(byte, b'"' | b'\\') {
+            out.push(b'\\');
+        }
+        out.push(byte);
+    }
+    out.push(b'"');
+}
+
+fn object(members: Vec<(&str, Json)>) -> Json {
+    Json::Object(members.into_iter().map(|(key, value)| (key.to_string(), value)).collect())
+}
+
+fn text(text: &str) -> Json {
+    Json::Text(text.to_string())
+}
+
+/// The length of the first message, where the stream has all of it.
+fn message_end(stream: &[u8]) -> Option<usize> {
+    let (mut depth, mut quoted, mut escaped) = (0, false, false);
+    for (at, byte) in stream.iter().enumerate() {
+        match byte {
+            _ if escaped => escaped = false,
+            b'\\' if quoted => escaped = true,
+            b'"' => quoted = !quoted,
+            b'{' | b'[' if !quoted => depth += 1,
+            b'}' | b']' if !quoted => {
+                depth -= 1;
+                if depth == 0 {
+                    return Some(at + 1);
+                }
+            }
+            _ => {}
+        }
+    }
+    None
+}
+
+impl Database {
+    /// Runs insertions into Logical_Switch and ACL_entry. An entry that nothing names goes at once.
+    fn transact(&mut self, ip: u32, operations: &[Json]) -> Option<Vec<Json>> {
+        let (mut results, mut names, mut keys, mut counter, mut broken) = (Vec::new(), Vec::new(), Vec::new(), self.counter, false);
+        for operation in operations {
+            let row = operation.member("row")?;
+            counter += 1;
+            let id = format!("{ip:08x}-0000-8000-8000-{counter:012x}");
+            results.push(object(vec![("uuid", Json::List(vec![text("uuid"), Json::Text(id)]))]));
+            match operation.member("table")?.text()? {
+                "ACL_entry" => {
+                    row.member("direction")?.text()?;
+                    row.member("action")?.text()?;
+                }
+                "Logical_Switch" => {
+                    let name = row.member("name")?.text()?.to_string();
+                    if self.switches.insert(name.clone()) {
+                        names.push(name);
+                    } else {
+                        broken = true;
+                    }
+                    if let Some(Json::Number(key)) = row.member("tunnel_key") {
+                        if self.tunnel_keys.insert(*key) {
+                            keys.push(*key);
+                        } else {
+                            broken = true;
+                        }
+                    }
+                }
+                _ => return None,
+            }
+        }
+        if broken || self.switches.len() > 1024 {
+            for name in &names {
+                self.switches.remove(name);
+            }
+            for key in &keys {
+                self.tunnel_keys.remove(key);
+            }
+            results.push(object(vec![("error", text("constraint violation"))]));
+        } else {
+            self.counter = counter;
+        }
+        Some(results)
+    }
+}
+
 impl Plain {
+    fn answer(&mut self, message: &[u8]) -> Option<Json> {
+        let message = Reader { text: message, at: 0 }.value()?;
+        let Json::Object(mut members) = message else { return None };
+        let id = members.remove("id")?;
+        let Json::List(params) = members.remove("params")? else { return None };
+        let result = match (members.get("method")?.text()?, &params[..]) {
+            ("transact", [Json::Text(name), operations @ ..]) if name == "hardware_vtep" => self.database.transact(self.ip, operations)?,
+            _ => return None,
+        };
+        Some(object(vec![("error", Json::Null), ("id", id), ("result", Json::List(result))]))
+    }
+
+    fn rpc(&mut self, w: &[(usize, &[u8])], out: &mut Vec<u8>) -> Answer {
+        let session = value(w[2], |word| number(word, u32::MAX))?;
+        let piece = value(w[3], bytes_of)?;
+        self.knows(w[1])?;
+        let mut stream = self.sessions.remove(&session).unwrap_or_default();
+        stream.extend_from_slice(&piece);
+        while let Some(end) = message_end(&stream) {
+            let rest = stream.split_off(end);
+            if let Some(answer) = self.answer(&stream) {
+                out.extend_from_slice(format!("rpc {} {session} ", self.name).as_bytes());
+                answer.write(out);
+                out.push(b'\n');
+            }
+            stream = rest;
+        }
+        self.sessions.insert(session, stream);
+        Ok(())
+    }
+
     fn new() -> Plain {
         Plain {
             name: String::new(),
@@ -130,6 +410,8 @@ impl Plain {
             switches: BTreeMap::new(),
             bindings: BTreeMap::new(),
             installed: Vec::new(),
+            sessions: BTreeMap::new(),
+            database: Database { counter: 2, switches: HashSet::new(), tunnel_keys: HashSet::new() },
         }
     }
 
@@ -192,6 +474,7 @@ impl Plain {
                 out.extend_from_slice(b"settled\n");
             }
             b"frame" => self.frame(w, out)?,
+            b"rpc" => self.rpc(w, out)?,
             _ => return refuse(w[0].0, "command"),
         }
         Ok(())

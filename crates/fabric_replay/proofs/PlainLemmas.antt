@@ -10,8 +10,8 @@ use Rattle.vtep_base.specs.Maps as maps
 use Rattle.vtep_base.specs.Reading.{same_bytes}
 use Rattle.std.specs.List.{list_any}
 use Rattle.std.specs.Cmp.Lexicographic.{nat_list_cmp_total}
-use Rattle.fabric_world.specs.declared.Line.TheVariants.{Gateway, Port, Switch, Bind, Frame}
-use Rattle.fabric_world.specs.World.{World, Site, bytes_cmp, fault, step, at_site, has_vni, is_service, outputs, outputs_text, entered, frame_outputs}
+use Rattle.fabric_world.specs.declared.Line.TheVariants.{Gateway, Switch, Bind, Frame}
+use Rattle.fabric_world.specs.World.{World, Site, bytes_cmp, fault, step, has_vni, is_service, outputs, outputs_text, entered, frame_outputs}
 use Rattle.ether_frames.specs.Frames.{frame_of}
 use Rattle.fabric_world.specs.declared.Line.{Line}
 use Rattle.fabric_world.specs.declared.Fault.{Fault}
@@ -105,19 +105,6 @@ gateway_runs p q name ip h none named site gateway new intent =
         refl,
       ),
     )
-
-same_gateways : (p q : Plain) → q.name ≡ p.name → q.gateway ≡ p.gateway → (world_of q).gateways ≡ (world_of p).gateways
-same_gateways p q name gateway = ap (λ n. gateways_of n q.gateway) name ∙ ap (gateways_of p.name) gateway
-
-pub port_runs : (p q : Plain) (g port : Bytes) → maps.has (world_of p).sites g ≡ true → list_any (λ q. same_bytes q port) p.ports.items ≡ false → length p.ports.items < 64 → q.name ≡ p.name
-    → site_of q ≡ record (site_of p) { ports = p.ports.items ++ port ∷ [] } → q.gateway ≡ p.gateway → (world_of q).intent ≡ (world_of p).intent → Runs (world_of p) (world_of q) [] [] (Port g port) None
-port_runs p q g port has new room name site gateway intent =
-    let found : maps.get (world_of p).sites g ≡ Some (site_of p) = known p g has in
-    let more : nat_le 64 (length p.ports.items) ≡ false = grind (arith, nat_tests) in
-    let accepted : fault (world_of p) (Port g port) ≡ None = rw (has, found, new, more) refl in
-    let added : step (world_of p) (Port g port) ≡ record (world_of p) { sites = maps.insert (world_of p).sites g (record (site_of p) { ports = p.ports.items ++ port ∷ [] }) } =
-    ap (at_site (λ s. record s { ports = s.ports ++ port ∷ [] }) (world_of p) g) found in
-    (sym accepted, (same_world (world_of q) (record (world_of p) { sites = maps.insert (world_of p).sites g (record (site_of p) { ports = p.ports.items ++ port ∷ [] }) }) refl (changed p q g _ has name site) (same_gateways p q name gateway) intent ∙ sym added, refl))
 
 pub none_of : {A : Type 0} (o : Option A) → is_some o ≡ false → o ≡ None
 none_of None e = refl

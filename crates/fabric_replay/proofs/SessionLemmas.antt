@@ -1,5 +1,5 @@
 -- What a gateway does with the events of sessions, in the plain world.
-use Rattle.std.proofs.Common.{◌≡◌, ℕ, Bool, true, false, cond, [], ◌++◌, Option, Some, None, refl, sym, ap, subst, ◌∙◌}
+use Rattle.std.proofs.Common.{◌≡◌, ℕ, Bool, true, false, cond, [], ◌++◌, Option, Some, None, option_map, refl, sym, ap, subst, ◌∙◌}
 use Rattle.vtep_base.specs.Reading.{Bytes}
 use Rattle.vtep_base.specs.Maps as maps
 use Rattle.vtep_gateway.specs.Gateway as vtep
@@ -10,8 +10,8 @@ use Rattle.vtep_gateway.specs.declared.Event.TheVariants as event
 use Rattle.vtep_gateway.specs.declared.EventRefused.TheVariants.{NoSession}
 use Rattle.fabric_world.specs.declared.Fault.TheVariants.{Unknown}
 use Rattle.fabric_world.specs.declared.Line.TheVariants.{Rpc, Hangup}
-use Rattle.fabric_world.specs.World.{World, fault, step, moved, outputs, outputs_text, answer_outputs, piece_outputs}
-use Rattle.fabric_replay.specs.PlainWorld.{world_of, only, gateways_of, no_session, Answered, Runs}
+use Rattle.fabric_world.specs.World.{World, fault_of, fault, step, moved, outputs, outputs_text, answer_outputs, piece_outputs}
+use Rattle.fabric_replay.specs.PlainWorld.{world_of, only, gateways_of, Answered, Runs}
 use Rattle.fabric_replay.specs.declared.plain.Plain.{Plain}
 use Rattle.fabric_replay.proofs.PlainLemmas.{same_world, gateway_known, gateway_changed}
 
@@ -51,22 +51,24 @@ same_gateways : (p q : Plain) (e : Event) (a : Answer) (took : Answered p q e a)
 same_gateways p q e a took same =
     ap (λ r. (world_of r).gateways) took.becomes ∙ ap (only p.name) same ∙ ap (gateways_of p.name) (sym took.was)
 
+pub as_it_was : (p q : Plain) (e : Event) (a : Answer) (took : Answered p q e a) → took.after.state ≡ took.before.state → world_of q ≡ world_of p
+as_it_was p q e a took same =
+    same_world (world_of q) (world_of p) refl (ap (λ r. (world_of r).sites) took.becomes) (same_gateways p q e a took same) (ap (λ r. (world_of r).intent) took.becomes)
+
 hangup_by : (p q : Plain) (g : Bytes) (s : ℕ) (a : Answer) → maps.has (world_of p).gateways g ≡ true → (took : Answered p q (event.Hangup s) a) → (t : Bool) → maps.has took.before.state.streams s ≡ t
-    → Runs (world_of p) (world_of q) [] [] (Hangup g s) (no_session a.refused)
+    → Runs (world_of p) (world_of q) [] [] (Hangup g s) (option_map fault_of a.refused)
 hangup_by p q g s a has took true is_open =
     let h : vtep.Gateway = took.before.state in
     let found : maps.get (world_of p).gateways g ≡ Some h = gateway_known p g took.before has took.was in
     let accepted : fault (world_of p) (Hangup g s) ≡ None = rw (has, found, is_open) refl in
     let done : None ≡ a.refused = ap (λ t. t.answer.refused) (when_true (maps.has h.streams s) (closed h s) (vtep.refused h NoSession) (record { gateway = took.after.state; answer = a }) is_open took.stepped) in
-    subst (λ r. Runs (world_of p) (world_of q) [] [] (Hangup g s) (no_session r)) done (sym accepted, (moved_world p q g (event.Hangup s) a has took, refl))
+    subst (λ r. Runs (world_of p) (world_of q) [] [] (Hangup g s) (option_map fault_of r)) done (sym accepted, (moved_world p q g (event.Hangup s) a has took, refl))
 hangup_by p q g s a has took false is_open =
     let h : vtep.Gateway = took.before.state in
     let found : maps.get (world_of p).gateways g ≡ Some h = gateway_known p g took.before has took.was in
     let refused : fault (world_of p) (Hangup g s) ≡ Some (Unknown 2) = rw (has, found, is_open) refl in
     let same = when_false (maps.has h.streams s) (closed h s) (vtep.refused h NoSession) (record { gateway = took.after.state; answer = a }) is_open took.stepped in
-    let as_it_was : world_of q ≡ world_of p =
-    same_world (world_of q) (world_of p) refl (ap (λ r. (world_of r).sites) took.becomes) (same_gateways p q (event.Hangup s) a took (sym (ap (λ t. t.gateway) same))) (ap (λ r. (world_of r).intent) took.becomes) in
-    subst (λ r. Runs (world_of p) (world_of q) [] [] (Hangup g s) (no_session r)) (ap (λ t. t.answer.refused) same) (sym refused, (as_it_was, refl))
+    subst (λ r. Runs (world_of p) (world_of q) [] [] (Hangup g s) (option_map fault_of r)) (ap (λ t. t.answer.refused) same) (sym refused, (as_it_was p q (event.Hangup s) a took (sym (ap (λ t. t.gateway) same)), refl))
 
-pub hangup_runs : (p q : Plain) (g : Bytes) (s : ℕ) (a : Answer) → maps.has (world_of p).gateways g ≡ true → Answered p q (event.Hangup s) a → Runs (world_of p) (world_of q) [] [] (Hangup g s) (no_session a.refused)
+pub hangup_runs : (p q : Plain) (g : Bytes) (s : ℕ) (a : Answer) → maps.has (world_of p).gateways g ≡ true → Answered p q (event.Hangup s) a → Runs (world_of p) (world_of q) [] [] (Hangup g s) (option_map fault_of a.refused)
 hangup_runs p q g s a has took = hangup_by p q g s a has took (maps.has took.before.state.streams s) refl

@@ -8,13 +8,11 @@ use Rattle.vtep_base.specs.declared.bindings.Binding.{Binding}
 use Rattle.vtep_base.specs.Reading.{same_bytes}
 use Rattle.fabric_world.specs.declared.Line.{Line}
 use Rattle.fabric_world.specs.declared.Fault.{Fault}
-use Rattle.fabric_world.specs.declared.Fault.TheVariants.{Unknown}
 use Rattle.vtep_gateway.specs.Gateway as vtep
 use Rattle.vtep_gateway.specs.Gateway.{Held}
 use Rattle.vtep_gateway.specs.Moves as moves
 use Rattle.vtep_gateway.specs.declared.Answer.{Answer}
 use Rattle.vtep_gateway.specs.declared.Event.{Event}
-use Rattle.vtep_gateway.specs.declared.EventRefused.{EventRefused}
 use Rattle.fabric_world.specs.World.{World, Site, bytes_cmp, fault, step, outputs, outputs_text}
 use Rattle.fabric_replay.specs.declared.plain.Plain.{Plain}
 
@@ -57,7 +55,3 @@ pub record Answered (old new : Plain) (e : Event) (a : Answer) : Type 0 where
   pub was : old.gateway ≡ Some before
   pub becomes : new ≡ record old { gateway = Some after }
   pub stepped : moves.step before.state e ≡ record { gateway = after.state; answer = a }
-
-abbrev pub no_session : Option EventRefused → Option Fault
-no_session None = None
-no_session (Some why) = Some (Unknown 2)

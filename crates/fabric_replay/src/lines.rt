@@ -50,9 +50,10 @@ fn refusal(column: usize, reason: LineReason) -> Refusal
 }
 
 /// All kinds of lines.
-const KINDS: [Kind; 10] = [
+const KINDS: [Kind; 11] = [
     Kind::Gateway,
     Kind::Port,
+    Kind::Unport,
     Kind::Switch,
     Kind::Bind,
     Kind::Settle,
@@ -70,6 +71,7 @@ fn kind_text(kind: Kind) -> &'static [u8]
     match kind {
         Kind::Gateway => b"gateway",
         Kind::Port => b"port",
+        Kind::Unport => b"unport",
         Kind::Switch => b"switch",
         Kind::Bind => b"bind",
         Kind::Settle => b"settle",
@@ -99,7 +101,7 @@ fn arity(kind: Kind) -> usize
     ensures few { result ≤ 8 }
 {
     match kind {
-        Kind::Gateway | Kind::Port | Kind::Underlay | Kind::Hangup => 2,
+        Kind::Gateway | Kind::Port | Kind::Unport | Kind::Underlay | Kind::Hangup => 2,
         Kind::Switch | Kind::Frame | Kind::Rpc => 3,
         Kind::Bind => 4,
         Kind::Settle | Kind::End => 0,
@@ -235,6 +237,7 @@ fn instruction(alloc: Global, kind: Kind, words: &[Word<'_>]) -> Result<Instruct
     match kind {
         Kind::Gateway => gateway(words),
         Kind::Port => port(words),
+        Kind::Unport => unport(words),
         Kind::Switch => switch(words),
         Kind::Bind => bind(words),
         Kind::Settle => Ok(Instruction::Do(Line::Settle)),
@@ -260,6 +263,14 @@ fn port(words: &[Word<'_>]) -> Result<Instruction, LineFault>
     let gateway = name_at(words, 1)?;
     let port = name_at(words, 2)?;
     Ok(Instruction::Do(Line::Port { gateway, port }))
+}
+
+fn unport(words: &[Word<'_>]) -> Result<Instruction, LineFault>
+    ensures { Reads result (instruction Kind.Unport (map seen words.now)) }
+{
+    let gateway = name_at(words, 1)?;
+    let port = name_at(words, 2)?;
+    Ok(Instruction::Do(Line::Unport { gateway, port }))
 }
 
 fn switch(words: &[Word<'_>]) -> Result<Instruction, LineFault>

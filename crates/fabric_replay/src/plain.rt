@@ -2,13 +2,13 @@
 
 ghost use Rattle.std.specs.Prelude.{◌≡◌, ◌++◌, [], length, map, filter, find, option_map, List, ℕ, Ok, Err, IfOk, OnOk, MatchResult};
 ghost use Rattle.std.specs.List.{list_any};
-ghost use Rattle.fabric_world.specs.World.{start, has_vni, wanted, is_service, is_at_place, is_other_member, leaves, flooded, to_itself, hex_word, frame_kind_text, packet_kind_text, packet_text, shown_packet, network_has, has_network, is_member, arrived, taken_out, output_text, outputs_text, Drop, No_frame, No_packet};
+ghost use Rattle.fabric_world.specs.World.{start, fault_of, has_vni, wanted, is_service, is_other_port, is_elsewhere, is_at_place, is_other_member, leaves, flooded, to_itself, hex_word, frame_kind_text, packet_kind_text, packet_text, shown_packet, network_has, has_network, is_member, arrived, taken_out, output_text, outputs_text, Drop, No_frame, No_packet};
 ghost use Rattle.vtep_base.specs.Maps as maps;
 ghost use Rattle.vxlan_frames.specs.Packets.{packet_of};
 ghost use Rattle.vtep_base.specs.Memory.{joined};
-ghost use Rattle.fabric_replay.specs.PlainWorld.{world_of, site_of, is_wanted, no_session, Answered, Runs};
+ghost use Rattle.fabric_replay.specs.PlainWorld.{world_of, site_of, is_wanted, Answered, Runs};
 
-use crate::sessions::write_answer;
+use crate::sessions::{write_answer, write_messages};
 use ether_frames::{Frame, FrameFault, FrameKind, read, write};
 use fabric_world::{Fault, Line, Network};
 use itoa::Buffer;
@@ -89,8 +89,14 @@ impl Plain {
         Ok(None)
     }
 
-    fn add_port(&mut self, gateway: &Name, port: Name) -> Result<Option<Fault>, OutOfMemory>
-        ensures { IfOk result (λ fault. Runs (world_of self.old) (world_of self.new) [] [] (Line.Port gateway.now port) fault) }
+    /// Adds a port, here and in the gateway's rows.
+    fn add_port(
+        &mut self,
+        gateway: &Name,
+        port: Name,
+        out: &mut Bytes,
+    ) -> Result<Option<Fault>, OutOfMemory>
+        ensures { IfOk result (λ fault. Runs (world_of self.old) (world_of self.new) out.old out.new (Line.Port gateway.now port) fault) }
     {
         if !self.knows(gateway) {
             return Ok(Some(Fault::Unknown(1)));
@@ -101,7 +107,37 @@ impl Plain {
         if self.ports.len() >= MOST_PORTS {
             return Ok(Some(Fault::Limit));
         }
+        let answer = self.step(&Event::Port { name: port })?;
+        if let Some(why) = answer.refused {
+            return Ok(Some(fault_of(why)));
+        }
         self.ports.push(port)?;
+        write_messages(gateway, answer.sends.as_slice(), out)?;
+        Ok(None)
+    }
+
+    /// Takes a port away, here and in the gateway's rows, and the bindings that are installed at it.
+    fn remove_port(
+        &mut self,
+        gateway: &Name,
+        port: Name,
+        out: &mut Bytes,
+    ) -> Result<Option<Fault>, OutOfMemory>
+        ensures { IfOk result (λ fault. Runs (world_of self.old) (world_of self.new) out.old out.new (Line.Unport gateway.now port) fault) }
+    {
+        if !self.knows(gateway) {
+            return Ok(Some(Fault::Unknown(1)));
+        }
+        if !self.ports.contains(&port) {
+            return Ok(Some(Fault::Unknown(2)));
+        }
+        let answer = self.step(&Event::Unport { name: port })?;
+        if let Some(why) = answer.refused {
+            return Ok(Some(fault_of(why)));
+        }
+        keep_other_ports(&mut self.ports, &port);
+        keep_elsewhere(&mut self.installed, &port);
+        write_messages(gateway, answer.sends.as_slice(), out)?;
         Ok(None)
     }
 
@@ -417,7 +453,7 @@ impl Plain {
             return Ok(Some(Fault::Unknown(1)));
         }
         let answer = self.step(&Event::Hangup { session })?;
-        Ok(no_session(answer.refused))
+        Ok(refusal(answer.refused))
     }
 
     /// Runs a line and appends what it writes, or says why it is refused and changes nothing.
@@ -431,7 +467,8 @@ impl Plain {
     {
         match line {
             Line::Gateway { name, ip } => self.add_gateway(alloc, name, ip),
-            Line::Port { gateway, port } => self.add_port(&gateway, port),
+            Line::Port { gateway, port } => self.add_port(&gateway, port, out),
+            Line::Unport { gateway, port } => self.remove_port(&gateway, port, out),
             Line::Switch { name, network } => self.add_switch(name, network),
             Line::Bind { switch, binding } => self.bind(switch, binding),
             Line::Settle => self.settle(alloc, out),
@@ -453,13 +490,21 @@ impl Plain {
     }
 }
 
-/// Why a session is not hung up.
-fn no_session(refused: Option<EventRefused>) -> Option<Fault>
-    ensures { result ≡ no_session refused }
+/// Why the gateway refuses an event, where it does.
+fn refusal(refused: Option<EventRefused>) -> Option<Fault>
+    ensures { result ≡ option_map fault_of refused }
 {
-    match refused {
-        Some(EventRefused::NoSession) => Some(Fault::Unknown(2)),
-        None => None,
+    refused.map(fault_of)
+}
+
+/// Why the gateway refuses an event, at its word.
+fn fault_of(why: EventRefused) -> Fault
+    ensures { result ≡ fault_of why }
+{
+    match why {
+        EventRefused::Repeated => Fault::Repeated(2),
+        EventRefused::Ports => Fault::Limit,
+        EventRefused::NoPort | EventRefused::NoSession => Fault::Unknown(2),
     }
 }
 
@@ -470,6 +515,32 @@ fn is_service(mode: Mode) -> bool
         Mode::Source => false,
         Mode::Service => true,
     }
+}
+
+fn is_other_port(other: &Name, port: &Name) -> bool
+    ensures { result ≡ is_other_port port.now other.now }
+{
+    other != port
+}
+
+fn is_elsewhere(entry: &(Binding, Name), port: &Name) -> bool
+    ensures { result ≡ is_elsewhere port.now entry.now }
+{
+    is_other_port(&entry.0.port, port)
+}
+
+/// The port goes.
+fn keep_other_ports(ports: &mut Vec<Name>, port: &Name)
+    ensures { ports.new.items ≡ filter (is_other_port port.now) ports.old.items }
+{
+    ports.retain(|other| is_other_port(other, port));
+}
+
+/// The bindings that are installed at the port go.
+fn keep_elsewhere(installed: &mut Vec<(Binding, Name)>, port: &Name)
+    ensures { installed.new.items ≡ filter (is_elsewhere port.now) installed.old.items }
+{
+    installed.retain(|entry| is_elsewhere(entry, port));
 }
 
 fn is_at_place(entry: &(Binding, Name), port: &Name, vlan: Vlan) -> bool

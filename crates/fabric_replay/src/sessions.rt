@@ -61,7 +61,11 @@ fn write_failed(
 }
 
 /// Writes the messages that go to sessions.
-fn write_messages(gateway: &Name, messages: &[Outgoing], out: &mut Bytes) -> Result<(), OutOfMemory>
+pub(crate) fn write_messages(
+    gateway: &Name,
+    messages: &[Outgoing],
+    out: &mut Bytes,
+) -> Result<(), OutOfMemory>
     ensures { OnOk result (out.new ≡ out.old ++ outputs_text (map (Message gateway.now) messages.now)) }
 {
     'messages: for message in messages {

@@ -130,13 +130,14 @@ fn refuses_commands(rt: HostRuntime) -> Result<(), Fail> {
 
 #[test]
 fn refuses_missing_words(rt: HostRuntime) -> Result<(), Fail> {
-    let cases: [(&[u8], &[u8]); 19] = [
+    let cases: [(&[u8], &[u8]); 20] = [
         (b"gateway", b"8 words"),
         (b" gateway  ", b"9 words"),
         (b"gateway g2", b"11 words"),
         (b"port", b"5 words"),
         (b"port g1", b"8 words"),
         (b"port  g1 ", b"9 words"),
+        (b"unport g1", b"10 words"),
         (b"switch", b"7 words"),
         (b"switch blue", b"12 words"),
         (b"switch blue 5", b"14 words"),
@@ -291,7 +292,7 @@ fn refuses_other_words(rt: HostRuntime) -> Result<(), Fail> {
 
 #[test]
 fn refuses_lines_that_do_not_fit(rt: HostRuntime) -> Result<(), Fail> {
-    let cases: [(&[u8], &[u8]); 23] = [
+    let cases: [(&[u8], &[u8]); 25] = [
         (b"gateway g1 10.0.0.9", b"9 repeated"),
         (b"gateway g2 10.0.0.1", b"12 repeated"),
         (b"gateway g1 10.0.0.1", b"9 repeated"),
@@ -299,6 +300,8 @@ fn refuses_lines_that_do_not_fit(rt: HostRuntime) -> Result<(), Fail> {
         (b"  gateway g2 10.0.0.2", b"3 limit"),
         (b"port g2 p1", b"6 unknown"),
         (b"port g1 p1", b"9 repeated"),
+        (b"unport g2 p1", b"8 unknown"),
+        (b"unport g1 p2", b"11 unknown"),
         (b"switch red 5 source", b"8 repeated"),
         (b"switch blue 100 source", b"13 repeated"),
         (b"switch blue 100 service", b"13 repeated"),
@@ -388,7 +391,7 @@ fn looks_for_the_end(rt: HostRuntime) -> Result<(), Fail> {
 
 #[test]
 fn drops_frames(rt: HostRuntime) -> Result<(), Fail> {
-    let cases: [(&[u8], u8, &[u8]); 4] = [
+    let cases: [(&[u8], u8, &[u8]); 5] = [
         (
             b"fabric 1\ngateway g1 10.0.0.1\nport g1 p1\nframe g1 p1 -\nend\n",
             0,
@@ -408,6 +411,11 @@ fn drops_frames(rt: HostRuntime) -> Result<(), Fail> {
             b"fabric 1\ngateway g1 10.0.0.1\nport g1 p1\nswitch red 1 source\nbind red g1 p1 0\nframe g1 p1 ffffffffffff02000000000188b5\nend\n",
             0,
             b"drop g1 unbound\n",
+        ),
+        (
+            b"fabric 1\ngateway g1 10.0.0.1\nport g1 p1\nport g1 p2\nswitch red 1 source\nbind red g1 p1 0\nbind red g1 p2 0\nsettle\nunport g1 p2\nframe g1 p1 ffffffffffff02000000000188b5\nport g1 p2\nframe g1 p2 ffffffffffff02000000000188b5\nsettle\nframe g1 p1 ffffffffffff02000000000188b5\nunport g1 p1\nframe g1 p1 -\n",
+            3,
+            b"settled\ndrop g1 unbound\nsettled\nout g1 p2 ffffffffffff02000000000188b5\nrefused 16 10 unknown\n",
         ),
     ];
     answers(&rt, rt.alloc(), &cases)

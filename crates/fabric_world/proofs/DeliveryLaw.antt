@@ -24,9 +24,9 @@ use Rattle.vtep_gateway.specs.Gateway as vtep
 use Rattle.vtep_gateway.specs.declared.Event.{Event}
 use Rattle.vtep_gateway.specs.declared.Event.TheVariants as event
 use Rattle.fabric_world.specs.declared.Line.{Line}
-use Rattle.fabric_world.specs.declared.Line.TheVariants.{Gateway, Port, Switch, Bind, Settle, Frame, Underlay, Rpc, Hangup}
+use Rattle.fabric_world.specs.declared.Line.TheVariants.{Gateway, Port, Unport, Switch, Bind, Settle, Frame, Underlay, Rpc, Hangup}
 use Rattle.fabric_world.specs.declared.Fault.{Fault}
-use Rattle.fabric_world.specs.World.{World, Site, Intent, start, first_of, has_ip, fault, step, Out, bytes_cmp, binding_cmp, at_site, moved, wanted, installed_each, is_at_place, is_other_member, leaves, to_itself, flooded, entered, frame_outputs}
+use Rattle.fabric_world.specs.World.{World, Site, Intent, start, first_of, has_ip, fault, step, Out, bytes_cmp, binding_cmp, at_site, at_gateway, with_port, without_port, is_elsewhere, moved, wanted, installed_each, is_at_place, is_other_member, leaves, to_itself, flooded, entered, frame_outputs}
 use Rattle.fabric_world.specs.Logical.{IsIn, EachOnce, Logical, Delivers, member, members, destination, source}
 use Rattle.fabric_world.specs.Delivery.{Accepts, after, out_at, IsBelow, InOrder, IsDelivered, DeliversInstalled}
 
@@ -132,6 +132,10 @@ IsGood [] = Unit {0}
 IsGood (e ∷ []) = IsGoodSite e.0 e.1
 IsGood (e ∷ f ∷ es) = ⊥
 
+here-any_filter : (q : Binding × Bytes → Bool) (g : Bytes) (es : List (Binding × Bytes)) → AllHere g es → AllHere g (filter q es)
+here-any_filter q g [] h = tt
+here-any_filter q g (e ∷ es) h = elim (q e) as (λ t. AllHere g (cond t (e ∷ filter q es) (filter q es))) [ true ↦ (h.0, here-any_filter q g es h.1) | false ↦ here-any_filter q g es h.1 ]
+
 abbrev is_wanted : Bytes → List Bytes → Binding × Bytes → Bool
 is_wanted g ports e = same_bytes g e.0.gateway && list_any (λ q. same_bytes q e.0.port) ports
 
@@ -173,18 +177,23 @@ found_by Greater e site h = absurd (cc)
 abbrev maps_find : Bytes → List (Bytes × Site) → Option Site
 maps_find g es = find_in bytes_cmp g es
 
-good_put : (es : List (Bytes × Site)) (g : Bytes) (site changed : Site) → IsGood es → maps_find g es ≡ Some site → changed.installed ≡ site.installed → IsGood (put bytes_cmp g changed es)
-good_put [] g site changed h f same = absurd (cc)
-good_put (e ∷ []) g site changed h f same =
+good_put : (es : List (Bytes × Site)) (g : Bytes) (site changed : Site) → IsGood es → maps_find g es ≡ Some site → ((k : Bytes) → IsGoodSite k site → IsGoodSite k changed) → IsGood (put bytes_cmp g changed es)
+good_put [] g site changed h f stays = absurd (cc)
+good_put (e ∷ []) g site changed h f stays =
     let p = found_by (bytes_cmp g e.0) e.1 site f in
-    let installed : changed.installed ≡ e.1.installed = same ∙ ap (λ s. s.installed) (sym p.1) in
-    rw p.0 (record { in_order = rw installed h.in_order; here = rw installed h.here })
-good_put (e ∷ f ∷ es) g site changed h i same = absurd h
+    rw p.0 (stays e.0 (subst (IsGoodSite e.0) p.1 h))
+good_put (e ∷ f ∷ es) g site changed h i stays = absurd h
 
-good_at_site : (w : World) (g : Bytes) (change : Site → Site) → ((s : Site) → (change s).installed ≡ s.installed) → IsGood w.sites.list → (o : Option Site) → maps_find g w.sites.list ≡ o
+good_at_site : (w : World) (g : Bytes) (change : Site → Site) → ((k : Bytes) (s : Site) → IsGoodSite k s → IsGoodSite k (change s)) → IsGood w.sites.list → (o : Option Site) → maps_find g w.sites.list ≡ o
     → IsGood (at_site change w g o).sites.list
-good_at_site w g change same h None f = h
-good_at_site w g change same h (Some site) f = rw (maps.list-insert nat_list_cmp_total w.sites g (change site)) (good_put w.sites.list g site (change site) h f (same site))
+good_at_site w g change stays h None f = h
+good_at_site w g change stays h (Some site) f = rw (maps.list-insert nat_list_cmp_total w.sites g (change site)) (good_put w.sites.list g site (change site) h f (λ k good. stays k site good))
+
+good_with_port : (p k : Bytes) (site : Site) → IsGoodSite k site → IsGoodSite k (with_port p site)
+good_with_port p k site h = record { in_order = h.in_order; here = h.here }
+
+good_without_port : (p k : Bytes) (site : Site) → IsGoodSite k site → IsGoodSite k (without_port p site)
+good_without_port p k site h = record { in_order = in_order-filter (is_elsewhere p) site.installed h.in_order; here = here-any_filter (is_elsewhere p) k site.installed h.here }
 
 good_settled : (intent : Intent) (es : List (Bytes × Site)) → IsGood es → IsGood (installed_each intent es).list
 good_settled intent [] h = tt
@@ -202,7 +211,10 @@ moved_limits w g e (Some gateway) = refl
 
 good_step : (w : World) (line : Line) → w.limits.gateways ≡ 1 → IsGood w.sites.list → fault w line ≡ None → IsGood (step w line).sites.list
 good_step w (Gateway g ip) one h e = rw (none_yet w g ip one e) (record { in_order = tt; here = tt })
-good_step w (Port g p) one h e = good_at_site w g _ (λ s. refl) h (maps.get w.sites g) refl
+good_step w (Port g p) one h e =
+    rw (moved_sites (at_gateway w g (with_port p)) g (event.Port p) (maps.get w.gateways g)) (good_at_site w g (with_port p) (good_with_port p) h (maps.get w.sites g) refl)
+good_step w (Unport g p) one h e =
+    rw (moved_sites (at_gateway w g (without_port p)) g (event.Unport p) (maps.get w.gateways g)) (good_at_site w g (without_port p) (good_without_port p) h (maps.get w.sites g) refl)
 good_step w (Switch s n) one h e = h
 good_step w (Bind s b) one h e = h
 good_step w Settle one h e = good_settled w.intent w.sites.list h
@@ -217,7 +229,8 @@ at_site_limits change w g (Some site) = refl
 
 step_limits : (w : World) (line : Line) → (step w line).limits ≡ w.limits
 step_limits w (Gateway g ip) = refl
-step_limits w (Port g p) = at_site_limits _ w g (maps.get w.sites g)
+step_limits w (Port g p) = moved_limits (at_gateway w g (with_port p)) g (event.Port p) (maps.get w.gateways g) ∙ at_site_limits (with_port p) w g (maps.get w.sites g)
+step_limits w (Unport g p) = moved_limits (at_gateway w g (without_port p)) g (event.Unport p) (maps.get w.gateways g) ∙ at_site_limits (without_port p) w g (maps.get w.sites g)
 step_limits w (Switch s n) = refl
 step_limits w (Bind s b) = refl
 step_limits w Settle = refl
@@ -278,10 +291,6 @@ below-mapped inner b (e ∷ es) h = (h.0, below-mapped inner b es h.1)
 in_order-mapped : (inner : Bytes) (es : List (Binding × Bytes)) → InOrder es → InOrder (map (as_bytes inner) es)
 in_order-mapped inner [] h = tt
 in_order-mapped inner (e ∷ es) h = (below-mapped inner e.0 es h.0, in_order-mapped inner es h.1)
-
-here-any_filter : (q : Binding × Bytes → Bool) (g : Bytes) (es : List (Binding × Bytes)) → AllHere g es → AllHere g (filter q es)
-here-any_filter q g [] h = tt
-here-any_filter q g (e ∷ es) h = elim (q e) as (λ t. AllHere g (cond t (e ∷ filter q es) (filter q es))) [ true ↦ (h.0, here-any_filter q g es h.1) | false ↦ here-any_filter q g es h.1 ]
 
 written-mapped : (inner g : Bytes) (es : List (Binding × Bytes)) → AllHere g es → map (leaves g inner) es ≡ map out_at (map (as_bytes inner) es)
 written-mapped inner g [] h = refl

@@ -11,7 +11,7 @@ use Rattle.vtep_base.specs.declared.answers.LineReason.TheVariants as reason
 use Rattle.fabric_world.specs.declared.Refusal.{Refusal}
 use Rattle.fabric_world.specs.declared.Kind.{Kind}
 use Rattle.fabric_world.specs.declared.Kind.TheVariants as kind
-use Rattle.fabric_world.specs.declared.Line.TheVariants.{Gateway, Port, Switch, Bind, Settle, Frame, Underlay, Rpc, Hangup}
+use Rattle.fabric_world.specs.declared.Line.TheVariants.{Gateway, Port, Unport, Switch, Bind, Settle, Frame, Underlay, Rpc, Hangup}
 use Rattle.fabric_world.specs.declared.Instruction.{Instruction}
 use Rattle.fabric_world.specs.declared.Instruction.TheVariants.{Do, End}
 use Rattle.fabric_world.specs.Text.{Word, words, bad_byte}
@@ -33,6 +33,7 @@ is_word a b = same_bytes a b
 abbrev pub kind_text : Kind → Bytes
 kind_text kind.Gateway = codes "gateway"
 kind_text kind.Port = codes "port"
+kind_text kind.Unport = codes "unport"
 kind_text kind.Switch = codes "switch"
 kind_text kind.Bind = codes "bind"
 kind_text kind.Settle = codes "settle"
@@ -43,7 +44,7 @@ kind_text kind.Hangup = codes "hangup"
 kind_text kind.End = codes "end"
 
 abbrev pub kinds : List Kind
-kinds = kind.Gateway ∷ kind.Port ∷ kind.Switch ∷ kind.Bind ∷ kind.Settle ∷ kind.Frame ∷ kind.Underlay ∷ kind.Rpc ∷ kind.Hangup ∷ kind.End ∷ []
+kinds = kind.Gateway ∷ kind.Port ∷ kind.Unport ∷ kind.Switch ∷ kind.Bind ∷ kind.Settle ∷ kind.Frame ∷ kind.Underlay ∷ kind.Rpc ∷ kind.Hangup ∷ kind.End ∷ []
 
 -- the first of the kinds that has this word
 abbrev pub kind_among : Bytes → List Kind → Option Kind
@@ -57,6 +58,7 @@ kind_of word = kind_among word kinds
 abbrev pub arity : Kind → ℕ
 arity kind.Gateway = 2
 arity kind.Port = 2
+arity kind.Unport = 2
 arity kind.Switch = 3
 arity kind.Bind = 4
 arity kind.Settle = 0
@@ -104,6 +106,10 @@ instruction kind.Port ws = do
   g ← word_at name_of ws 1
   p ← word_at name_of ws 2
   Ok (Do (Port g p))
+instruction kind.Unport ws = do
+  g ← word_at name_of ws 1
+  p ← word_at name_of ws 2
+  Ok (Do (Unport g p))
 instruction kind.Switch ws = do
   s ← word_at name_of ws 1
   vni ← word_at vni_of ws 2

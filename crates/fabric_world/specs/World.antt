@@ -1,6 +1,7 @@
 -- The state of a fabric, why a line is refused in it, and what a line does.
-use Rattle.std.specs.Prelude.{ℕ, Bool, true, false, not, ◌&&◌, ◌==◌, nat_le, if◌then◌else◌, List, [], ◌∷◌, ◌++◌, map, filter, find, length, Option, Some, None, codes, decimal, Result, Ok, Err, take, drop}
+use Rattle.std.specs.Prelude.{ℕ, Bool, true, false, not, ◌&&◌, ◌==◌, nat_le, if◌then◌else◌, List, [], ◌∷◌, ◌++◌, map, filter, find, length, Option, Some, None, option_map, codes, decimal, Result, Ok, Err, take, drop}
 use Rattle.std.specs.List.{list_any, flat_map}
+use Rattle.std.specs.Option.{option_or}
 use Rattle.std.specs.Ordering.{nat_cmp, ordering_then}
 use Rattle.std.specs.Cmp.Lexicographic.{slice_cmp}
 use Rattle.std.specs.declared.cmp.Ordering.{Ordering}
@@ -29,10 +30,12 @@ use Rattle.vtep_gateway.specs.Moves as moves
 use Rattle.vtep_gateway.specs.declared.Event.{Event}
 use Rattle.vtep_gateway.specs.declared.Event.TheVariants as event
 use Rattle.vtep_gateway.specs.declared.Answer.{Answer}
+use Rattle.vtep_gateway.specs.declared.EventRefused.{EventRefused}
+use Rattle.vtep_gateway.specs.declared.EventRefused.TheVariants as event_refused
 use Rattle.vtep_gateway.specs.declared.Outgoing.{Outgoing}
 use Rattle.fabric_world.specs.declared.Network.{Network}
 use Rattle.fabric_world.specs.declared.Line.{Line}
-use Rattle.fabric_world.specs.declared.Line.TheVariants.{Gateway, Port, Switch, Bind, Settle, Frame, Underlay, Rpc, Hangup}
+use Rattle.fabric_world.specs.declared.Line.TheVariants.{Gateway, Port, Unport, Switch, Bind, Settle, Frame, Underlay, Rpc, Hangup}
 use Rattle.fabric_world.specs.declared.Fault.{Fault}
 use Rattle.fabric_world.specs.declared.Fault.TheVariants.{Unknown, Repeated, Limit, Use}
 use Rattle.vtep_base.specs.Reading.{same_bytes}
@@ -66,7 +69,7 @@ pub record Limits : Type 0 where
 pub record World : Type 0 where
   pub limits : Limits
   pub sites : Map bytes_cmp Site
-  pub gateways : Map bytes_cmp vtep.Gateway  -- they answer sessions, beside the sites
+  pub gateways : Map bytes_cmp vtep.Gateway  -- they hold the rows and answer sessions, beside the sites
   pub intent : Intent
 
 abbrev pub start : World
@@ -107,15 +110,29 @@ abbrev pub has_session : ℕ → Option vtep.Gateway → Bool
 has_session s None = false
 has_session s (Some gateway) = maps.has gateway.streams s
 
+-- why a gateway refuses an event, at its word
+abbrev pub fault_of : EventRefused → Fault
+fault_of event_refused.Repeated = Repeated 2
+fault_of event_refused.Ports = Limit
+fault_of event_refused.NoPort = Unknown 2
+fault_of event_refused.NoSession = Unknown 2
+
+abbrev pub event_fault : Event → Option vtep.Gateway → Option Fault
+event_fault e None = None
+event_fault e (Some gateway) = option_map fault_of (moves.step gateway e).answer.refused
+
 abbrev pub fault : World → Line → Option Fault
 fault w (Gateway g ip) = first_of (
     (maps.has w.sites g, Repeated 1)
     ∷ (list_any (has_ip ip) w.sites.list, Repeated 2)
     ∷ (nat_le w.limits.gateways (maps.size w.sites), Limit) ∷ [])
-fault w (Port g p) = first_of (
+fault w (Port g p) = option_or (first_of (
     (not (maps.has w.sites g), Unknown 1)
     ∷ (has_port p (maps.get w.sites g), Repeated 2)
-    ∷ (nat_le w.limits.ports (port_count (maps.get w.sites g)), Limit) ∷ [])
+    ∷ (nat_le w.limits.ports (port_count (maps.get w.sites g)), Limit) ∷ [])) (event_fault (event.Port p) (maps.get w.gateways g))
+fault w (Unport g p) = option_or (first_of (
+    (not (maps.has w.sites g), Unknown 1)
+    ∷ (not (has_port p (maps.get w.sites g)), Unknown 2) ∷ [])) (event_fault (event.Unport p) (maps.get w.gateways g))
 fault w (Switch s n) = first_of (
     (maps.has w.intent.switches s, Repeated 1)
     ∷ (list_any (has_vni n.vni) w.intent.switches.list, Repeated 2)
@@ -159,6 +176,19 @@ at_site change w g (Some site) = record w { sites = maps.insert w.sites g (chang
 -- a gateway changes
 abbrev pub at_gateway : World → Bytes → (Site → Site) → World
 at_gateway w g change = at_site change w g (maps.get w.sites g)
+
+abbrev pub with_port : Bytes → Site → Site
+with_port p site = record site { ports = site.ports ++ p ∷ [] }
+
+abbrev pub is_other_port : Bytes → Bytes → Bool
+is_other_port p q = not (same_bytes q p)
+
+abbrev pub is_elsewhere : Bytes → Binding × Bytes → Bool
+is_elsewhere p e = is_other_port p e.0.port
+
+-- a port goes, and the bindings that are installed at it
+abbrev pub without_port : Bytes → Site → Site
+without_port p site = record site { ports = filter (is_other_port p) site.ports; installed = filter (is_elsewhere p) site.installed }
 
 -- the bindings of the intent on ports that the gateway has
 abbrev pub wanted : Intent → Bytes → Site → List (Binding × Bytes)
@@ -238,9 +268,15 @@ abbrev pub piece_outputs : Bytes → ℕ → Bytes → Option vtep.Gateway → L
 piece_outputs g s piece None = []
 piece_outputs g s piece (Some gateway) = answer_outputs g s (moves.step gateway (event.Bytes s piece)).answer
 
+-- what an event sends to sessions
+abbrev pub event_outputs : Bytes → Event → Option vtep.Gateway → List Output
+event_outputs g e None = []
+event_outputs g e (Some gateway) = map (Message g) (moves.step gateway e).answer.sends
+
 abbrev pub step : World → Line → World
 step w (Gateway g ip) = record w { sites = maps.insert w.sites g (record { ip = ip; ports = []; installed = [] }); gateways = maps.insert w.gateways g (vtep.new_gateway g ip) }
-step w (Port g p) = at_gateway w g (λ site. record site { ports = site.ports ++ p ∷ [] })
+step w (Port g p) = moved (at_gateway w g (with_port p)) g (event.Port p) (maps.get w.gateways g)
+step w (Unport g p) = moved (at_gateway w g (without_port p)) g (event.Unport p) (maps.get w.gateways g)
 step w (Switch s n) = record w { intent = record w.intent { switches = maps.insert w.intent.switches s n } }
 step w (Bind s b) = record w { intent = record w.intent { bindings = maps.insert w.intent.bindings b s } }
 step w Settle = record w { sites = installed_each w.intent w.sites.list }
@@ -250,6 +286,8 @@ step w (Rpc g s piece) = moved w g (event.Bytes s piece) (maps.get w.gateways g)
 step w (Hangup g s) = moved w g (event.Hangup s) (maps.get w.gateways g)
 
 abbrev pub outputs : World → Line → List Output
+outputs w (Port g p) = event_outputs g (event.Port p) (maps.get w.gateways g)
+outputs w (Unport g p) = event_outputs g (event.Unport p) (maps.get w.gateways g)
 outputs w Settle = Settled ∷ []
 outputs w (Frame g p bytes) = frame_outputs g p bytes (maps.get w.sites g)
 outputs w (Underlay g bytes) = packet_outputs g w.intent bytes (maps.get w.sites g)

@@ -19,6 +19,7 @@ pub struct Refusal {
 pub enum Kind {
     Gateway,
     Port,
+    Unport,
     Switch,
     Bind,
     Settle,
@@ -37,6 +38,10 @@ pub enum Line {
         ip: Ipv4,
     },
     Port {
+        gateway: Name,
+        port: Name,
+    },
+    Unport {
         gateway: Name,
         port: Name,
     },

@@ -1,5 +1,5 @@
 -- Events by computation.
-use Rattle.std.specs.Prelude.{◌≡◌, List, [], ◌∷◌, map, Some, codes, refl}
+use Rattle.std.specs.Prelude.{◌≡◌, List, [], ◌∷◌, map, true, is_some, Some, codes, refl}
 use Rattle.std.specs.Str.{is_utf8, chars}
 use Rattle.json_notation.specs.Computes.{texts}
 use Rattle.vtep_base.specs.Reading.{Bytes}
@@ -8,7 +8,8 @@ use Rattle.rpc_framing.specs.declared.FramingKind.TheVariants.{NotObject}
 use Rattle.rpc_framing.specs.Streams.{opened}
 use Rattle.vtep_gateway.specs.declared.Event.{Event}
 use Rattle.vtep_gateway.specs.declared.Event.TheVariants as event
-use Rattle.vtep_gateway.specs.declared.EventRefused.TheVariants.{NoSession}
+use Rattle.vtep_gateway.specs.declared.EventRefused.TheVariants.{NoSession, NoPort, Repeated}
+use Rattle.vtep_gateway.specs.Ports.{port_named}
 use Rattle.vtep_gateway.specs.Gateway.{Gateway, new_gateway, Step, nothing, refused}
 use Rattle.vtep_gateway.specs.Moves.{step}
 
@@ -53,3 +54,38 @@ opens_anew = refl
 
 not_open : step g1 (event.Hangup 2) ≡ refused g1 NoSession
 not_open = refl
+
+-- ---- ports
+
+has_p1 : is_some (port_named (step g1 (event.Port (codes "p1"))).gateway.vtep.rows (codes "p1")) ≡ true
+unfolding texts is_utf8 chars
+has_p1 = refl
+
+repeated : (step (step g1 (event.Port (codes "p1"))).gateway (event.Port (codes "p1"))).answer ≡ record nothing { refused = Some Repeated }
+unfolding texts is_utf8 chars
+repeated = refl
+
+no_port : step g1 (event.Unport (codes "p1")) ≡ refused g1 NoPort
+unfolding texts is_utf8 chars
+no_port = refl
+
+-- the number of a port that went is not given again
+gone : (run g1 (event.Port (codes "p1") ∷ event.Unport (codes "p1") ∷ [])).vtep.rows ≡ record (g1.vtep.rows) { counter = 3 }
+unfolding texts is_utf8 chars
+gone = refl
+
+-- ---- transactions
+
+inserts : sent (step g1 (event.Bytes 1 (codes "{\"method\":\"transact\",\"params\":[\"hardware_vtep\",{\"op\":\"insert\",\"table\":\"Logical_Switch\",\"row\":{\"name\":\"red\"}}],\"id\":7}")))
+    ≡ codes "{\"error\":null,\"id\":7,\"result\":[{\"uuid\":[\"uuid\",\"0a000001-0000-8000-8000-000000000003\"]}]}" ∷ []
+unfolding texts is_utf8 chars
+inserts = refl
+
+-- what an insertion did before the abort is taken back
+aborted : step g1 (event.Bytes 1 (codes "{\"method\":\"transact\",\"params\":[\"hardware_vtep\",{\"op\":\"insert\",\"table\":\"Logical_Switch\",\"row\":{\"name\":\"red\"}},{\"op\":\"abort\"}],\"id\":7}"))
+    ≡ record {
+      gateway = record g1 { streams = maps.insert maps.empty 1 (record (opened 0x2000000) { at = 132 }) };
+      answer = record nothing { sends = record { session = 1; bytes = codes "{\"error\":null,\"id\":7,\"result\":[{\"uuid\":[\"uuid\",\"0a000001-0000-8000-8000-000000000003\"]},{\"error\":\"aborted\"}]}" } ∷ [] };
+    }
+unfolding texts is_utf8 chars
+aborted = refl

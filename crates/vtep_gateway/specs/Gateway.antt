@@ -6,6 +6,7 @@ use Rattle.vtep_base.specs.Reading.{Bytes}
 use Rattle.vtep_base.specs.Maps as maps
 use Rattle.vtep_base.specs.Maps.{Map}
 use Rattle.rpc_framing.specs.Streams.{Stream, stream_code}
+use Rattle.vtep_rows.specs.Rows.{opening}
 use Rattle.vtep_gateway.specs.declared.Answer.{Answer}
 use Rattle.vtep_gateway.specs.declared.EventRefused.{EventRefused}
 use Rattle.vtep_gateway.specs.Vtep.{Vtep, vtep_code}
@@ -33,7 +34,7 @@ held_code =
 
 -- of which no session is open
 abbrev pub new_gateway : Bytes → ℕ → Gateway
-new_gateway name ip = record { vtep = record { name = name; ip = ip }; streams = maps.empty }
+new_gateway name ip = record { vtep = record { name = name; ip = ip; rows = opening name ip }; streams = maps.empty }
 
 -- what an event comes to
 pub record Step : Type 0 where
@@ -42,6 +43,9 @@ pub record Step : Type 0 where
 
 abbrev pub nothing : Answer
 nothing = record { sends = []; failed = None; refused = None }
+
+abbrev pub unchanged : Gateway → Step
+unchanged g = record { gateway = g; answer = nothing }
 
 abbrev pub refused : Gateway → EventRefused → Step
 refused g why = record { gateway = g; answer = record nothing { refused = Some why } }

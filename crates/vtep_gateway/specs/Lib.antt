@@ -1,5 +1,7 @@
 pub mod Vtep
 pub mod Gateway
+pub mod Commit
+pub mod Ports
 pub mod Methods
 pub mod Sessions
 pub mod Moves

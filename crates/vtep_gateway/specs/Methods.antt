@@ -1,5 +1,5 @@
 -- What requests do (RFC 7047, section 4.1).
-use Rattle.std.specs.Prelude.{ℕ, ⊤, if◌then◌else◌, List, [], ◌∷◌, Option, Some, None, option_and_then, codes, Result, Ok, Err}
+use Rattle.std.specs.Prelude.{ℕ, ⊤, Bool, ◌||◌, if◌then◌else◌, List, [], ◌∷◌, Option, Some, None, option_and_then, codes, Result, Ok, Err, is_err}
 use Rattle.serde_json.specs.Data.{Data, string}
 use Rattle.serde_json.specs.Find.{at, as_str}
 use Rattle.serde_json.specs.View.{view}
@@ -11,14 +11,21 @@ use Rattle.json_notation.specs.Json.{list}
 use Rattle.vtep_schema.specs.Published.{schema_json}
 use Rattle.vtep_gateway.specs.declared.Outgoing.{Outgoing}
 use Rattle.vtep_gateway.specs.declared.methods.Method.{Method}
-use Rattle.vtep_gateway.specs.declared.methods.Method.TheVariants.{Echo, ListDbs, GetSchema}
-use Rattle.vtep_gateway.specs.Vtep.{Vtep}
+use Rattle.vtep_gateway.specs.declared.methods.Method.TheVariants.{Echo, ListDbs, GetSchema, Transact}
+use Rattle.vtep_rows.specs.declared.soundness.Rule.{Rule}
+use Rattle.vtep_rows.specs.Rows.{Rows}
+use Rattle.transact_profile.specs.Meaning.{Reply, Outcome, means}
+use Rattle.transact_profile.specs.Transaction.{ops_in}
+use Rattle.transact_profile.specs.Finish.{finished}
+use Rattle.vtep_gateway.specs.Vtep.{Vtep, with_rows}
+use Rattle.vtep_gateway.specs.Commit.{commit}
 
 abbrev pub method_of : Bytes → Option Method
 method_of name =
     if same_bytes name (codes "echo") then Some Echo
     else if same_bytes name (codes "list_dbs") then Some ListDbs
     else if same_bytes name (codes "get_schema") then Some GetSchema
+    else if same_bytes name (codes "transact") then Some Transact
     else None
 
 -- what a request does: the tunnel end point, what is sent before the reply, and the result or the word
@@ -53,11 +60,33 @@ or_word (Err w) d = Err w
 abbrev pub schema_in : Data → Result Data Word
 schema_in params = or_word (in_database params) schema_json
 
+-- the results, and the rows after them, or the rule that these break
+abbrev pub ended : List Reply → Result Rows Rule → Data × Option Rows
+ended results (Ok r) = (finished results None, Some r)
+ended results (Err rule) = (finished results (Some rule), None)
+
+-- what a transaction answers, and the rows that it leaves: a transaction that fails or that breaks a rule leaves none
+abbrev pub transacted : Outcome → Data × Option Rows
+transacted o = if o.failed then (finished o.results None, None) else ended o.results (commit o.rows)
+
+-- an operation fails, or the rows after all of them break a rule
+abbrev pub fails : Outcome → Bool
+fails o = o.failed || is_err (commit o.rows)
+
+abbrev pub keep : Vtep → Option Rows → Vtep
+keep v None = v
+keep v (Some r) = with_rows v r
+
+abbrev pub transact_in : Vtep → Data → Result ⊤ Word → Done
+transact_in v params (Ok _) = let t : Data × Option Rows = transacted (means (ops_in params) v.rows) in only (keep v t.1) (Ok t.0)
+transact_in v params (Err w) = only v (Err w)
+
 -- what a session's request does: the session, the method, the parameters
 abbrev pub called : Vtep → ℕ → Option Method → Data → Done
 called v s (Some Echo) params = only v (Ok params)
 called v s (Some ListDbs) params = only v (Ok databases)
 called v s (Some GetSchema) params = only v (schema_in params)
+called v s (Some Transact) params = transact_in v params (in_database params)
 called v s None params = only v (Err word.UnknownMethod)
 
 -- the result that the code holds

@@ -1,16 +1,48 @@
 -- What a gateway does with an event.
-use Rattle.std.specs.Prelude.{ℕ, if◌then◌else◌}
+use Rattle.std.specs.Prelude.{ℕ, if◌then◌else◌, Option, Some, None, Result, Ok, Err}
+use Rattle.vtep_base.specs.Reading.{Bytes}
 use Rattle.vtep_base.specs.Maps as maps
+use Rattle.vtep_rows.specs.declared.soundness.Rule.{Rule}
+use Rattle.vtep_rows.specs.Rows.{Rows}
 use Rattle.vtep_gateway.specs.declared.Event.{Event}
 use Rattle.vtep_gateway.specs.declared.Event.TheVariants as event
-use Rattle.vtep_gateway.specs.declared.EventRefused.TheVariants.{NoSession}
-use Rattle.vtep_gateway.specs.Gateway.{Gateway, Step, nothing, refused}
+use Rattle.vtep_gateway.specs.declared.EventRefused.{EventRefused}
+use Rattle.vtep_gateway.specs.declared.EventRefused.TheVariants.{NoSession, NoPort}
+use Rattle.vtep_gateway.specs.Gateway.{Gateway, Step, nothing, unchanged, refused}
 use Rattle.vtep_gateway.specs.Sessions.{on_bytes}
+use Rattle.vtep_gateway.specs.Vtep.{with_rows}
+use Rattle.vtep_gateway.specs.Commit.{commit}
+use Rattle.vtep_gateway.specs.Ports.{port_named, port_refusal, with_port, without_port}
 
 abbrev pub on_hangup : Gateway → ℕ → Step
 on_hangup g s = if maps.has g.streams s then record { gateway = record g { streams = maps.remove g.streams s }; answer = nothing } else refused g NoSession
+
+-- the rows are kept where they break no rule
+abbrev pub settled : Gateway → Result Rows Rule → Step
+settled g (Ok r) = record { gateway = record g { vtep = with_rows g.vtep r }; answer = nothing }
+settled g (Err rule) = unchanged g
+
+abbrev pub changed : Gateway → Option Rows → Step
+changed g None = unchanged g
+changed g (Some r) = settled g (commit r)
+
+abbrev pub port_unless : Gateway → Bytes → Option EventRefused → Step
+port_unless g name None = changed g (with_port g.vtep.rows name)
+port_unless g name (Some why) = refused g why
+
+abbrev pub on_port : Gateway → Bytes → Step
+on_port g name = port_unless g name (port_refusal g.vtep.rows name)
+
+abbrev pub unport_by : Gateway → Option ℕ → Step
+unport_by g None = refused g NoPort
+unport_by g (Some id) = changed g (without_port g.vtep.rows id)
+
+abbrev pub on_unport : Gateway → Bytes → Step
+on_unport g name = unport_by g (port_named g.vtep.rows name)
 
 -- the one answer and next state of an event
 abbrev pub step : Gateway → Event → Step
 step g (event.Bytes s piece) = on_bytes g s piece
 step g (event.Hangup s) = on_hangup g s
+step g (event.Port name) = on_port g name
+step g (event.Unport name) = on_unport g name

@@ -1,16 +1,20 @@
 //! A gateway and its step.
 
-ghost use Rattle.std.specs.Prelude.{◌≡◌, true, false, Some, IfOk, OnOk, OnErr};
+ghost use Rattle.std.specs.Prelude.{◌≡◌, true, false, Some, is_some, IfOk, OnOk, OnErr};
 ghost use Rattle.vtep_gateway.specs.Gateway.{new_gateway, nothing};
 ghost use Rattle.vtep_gateway.specs.Sessions.{on_bytes};
-ghost use Rattle.vtep_gateway.specs.Moves.{on_hangup, step};
+ghost use Rattle.vtep_gateway.specs.Ports.{port_named};
+ghost use Rattle.vtep_gateway.specs.Moves.{on_hangup, on_port, on_unport, changed, step};
 
+use crate::commit::committed;
+use crate::ports::{port_named, port_refusal, with_port, without_port};
 use crate::streams::Streams;
 use crate::vtep::Vtep;
 use crate::{Answer, Event, EventRefused};
 use std::alloc::Global;
 use std::marker::Model;
 use vtep_base::{Bytes, Ipv4, List, Name, OutOfMemory};
+use vtep_rows::Rows;
 
 /// A gateway. Contracts see its state, and whether it is stopped.
 #[derive(Drop)]
@@ -31,6 +35,17 @@ impl Model for Gateway {
     ghost view = { λ g. record { state = record { vtep = g.vtep; streams = g.streams }; stopped = g.stopped } };
 }
 
+/// What an event comes to of which nothing goes out.
+fn nothing(alloc: Global) -> Answer
+    ensures { result ≡ nothing }
+{
+    Answer {
+        sends: List::new(alloc),
+        failed: None,
+        refused: None,
+    }
+}
+
 /// What an event comes to that is refused.
 fn refused(alloc: Global, why: EventRefused) -> Answer
     ensures { result ≡ record nothing { refused = Some why } }
@@ -47,14 +62,21 @@ impl Gateway {
     pub fn new(alloc: Global, name: Name, ip: Ipv4) -> Result<Gateway, OutOfMemory>
         ensures { IfOk result (λ g. g ≡ record { state = new_gateway name ip; stopped = false }) }
     {
+        let rows = Rows::new(alloc, &name, ip)?;
         Ok(Gateway {
             alloc,
-            vtep: Vtep { alloc, name, ip },
+            vtep: Vtep {
+                alloc,
+                name,
+                ip,
+                rows,
+            },
             streams: Streams::new(alloc),
             stopped: false,
         })
     }
 
+    /// Its name.
     pub fn name(&self) -> &Name
         ensures { result.now ≡ self.now.state.vtep.name }
     {
@@ -66,6 +88,20 @@ impl Gateway {
         ensures { result ≡ self.now.state.vtep.ip }
     {
         self.vtep.ip
+    }
+
+    /// The rows of its database, as the last commit left them.
+    pub fn rows(&self) -> &Rows
+        ensures { result.now ≡ self.now.state.vtep.rows }
+    {
+        &self.vtep.rows
+    }
+
+    /// Whether there is a port of this name. Takes no memory.
+    pub fn has_port(&self, port: &Name) -> bool
+        ensures { result ≡ is_some (port_named self.now.state.vtep.rows port.now) }
+    {
+        port_named(&self.vtep.rows, port).is_some()
     }
 
     /// A step found no memory. Nothing more is claimed of the gateway.
@@ -98,11 +134,42 @@ impl Gateway {
         if !self.streams.close(session) {
             return refused(self.alloc, EventRefused::NoSession);
         }
-        Answer {
-            sends: List::new(self.alloc),
-            failed: None,
-            refused: None,
+        nothing(self.alloc)
+    }
+
+    /// Keeps the rows after a change, where they break no rule.
+    fn change(&mut self, rows: Option<Rows>) -> Result<Answer, OutOfMemory>
+        ensures ok { IfOk result (λ a. changed self.old.state rows ≡ record { gateway = self.new.state; answer = a }) }
+        ensures going { self.new.stopped ≡ self.old.stopped }
+    {
+        if let Some(rows) = rows {
+            if let Ok(rows) = committed(self.alloc, rows)? {
+                self.vtep.rows = rows;
+            }
         }
+        Ok(nothing(self.alloc))
+    }
+
+    fn on_port(&mut self, name: &Name) -> Result<Answer, OutOfMemory>
+        ensures ok { IfOk result (λ a. on_port self.old.state name.now ≡ record { gateway = self.new.state; answer = a }) }
+        ensures going { self.new.stopped ≡ self.old.stopped }
+    {
+        if let Some(why) = port_refusal(&self.vtep.rows, name) {
+            return Ok(refused(self.alloc, why));
+        }
+        let rows = with_port(self.alloc, &self.vtep.rows, name)?;
+        self.change(rows)
+    }
+
+    fn on_unport(&mut self, name: &Name) -> Result<Answer, OutOfMemory>
+        ensures ok { IfOk result (λ a. on_unport self.old.state name.now ≡ record { gateway = self.new.state; answer = a }) }
+        ensures going { self.new.stopped ≡ self.old.stopped }
+    {
+        let Some(id) = port_named(&self.vtep.rows, name) else {
+            return Ok(refused(self.alloc, EventRefused::NoPort));
+        };
+        let rows = without_port(self.alloc, &self.vtep.rows, id)?;
+        self.change(rows)
     }
 
     fn answer(&mut self, event: &Event) -> Result<Answer, OutOfMemory>
@@ -112,6 +179,8 @@ impl Gateway {
         match event {
             Event::Bytes { session, piece } => self.on_bytes(*session, piece),
             Event::Hangup { session } => Ok(self.on_hangup(*session)),
+            Event::Port { name } => self.on_port(name),
+            Event::Unport { name } => self.on_unport(name),
         }
     }
 

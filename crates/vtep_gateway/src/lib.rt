@@ -1,15 +1,19 @@
 //! One gateway, as the events that come to it: its tunnel end point, and the sessions that speak with it.
 #![tactic(auto)]
 
+mod commit;
 mod gateway;
+mod laws;
 mod methods;
+mod ports;
 mod replies;
 mod streams;
 mod vtep;
 
 pub use gateway::Gateway;
+pub use laws::{failed_changes_nothing, refused_changes_nothing, unfinished_changes_nothing};
 use rpc_framing::Framing;
-use vtep_base::{Bytes, List};
+use vtep_base::{Bytes, List, Name};
 
 /// What comes to a gateway.
 #[derive(Debug, Drop)]
@@ -18,6 +22,10 @@ pub enum Event {
     Bytes { session: u32, piece: Bytes },
     /// A session ends.
     Hangup { session: u32 },
+    /// A port is added.
+    Port { name: Name },
+    /// A port is taken away.
+    Unport { name: Name },
 }
 
 /// A message that goes to a session.
@@ -30,6 +38,12 @@ pub struct Outgoing {
 /// Why an event changes nothing.
 #[derive(Clone, Copy, Debug, PartialEq, Eq, Drop)]
 pub enum EventRefused {
+    /// The port is there.
+    Repeated,
+    /// As many ports as there may be are there, or no row number is left.
+    Ports,
+    /// The port is not there.
+    NoPort,
     /// The session to hang up is not open.
     NoSession,
 }

@@ -1,15 +1,20 @@
 //! What a request does (RFC 7047, section 4.1).
 
-ghost use Rattle.std.specs.Prelude.{◌≡◌, ◌++◌, false, IfOk};
+ghost use Rattle.std.specs.Prelude.{◌≡◌, ◌++◌, [], false, Ok, IfOk};
+ghost use Rattle.transact_profile.specs.Meaning.{means};
+ghost use Rattle.transact_profile.specs.Transaction.{ops_in};
 ghost use Rattle.serde_json.specs.View.{view};
 ghost use Rattle.serde_json.specs.Written.{has_float};
-ghost use Rattle.vtep_gateway.specs.Methods.{method_of, in_database, databases, schema_in, called, seen};
+ghost use Rattle.vtep_gateway.specs.Methods.{method_of, in_database, databases, schema_in, transacted, transact_in, keep, called, seen};
 
 use crate::Outgoing;
+use crate::commit::committed;
 use crate::vtep::Vtep;
 use serde_json::Value;
 use std::alloc::Global;
+use transact_profile::{finish, read_ops, transact};
 use vtep_base::{List, OutOfMemory, Word};
+use vtep_rows::Rows;
 
 /// The methods that are known.
 #[derive(Clone, Copy)]
@@ -17,6 +22,7 @@ pub(crate) enum Method {
     Echo,
     ListDbs,
     GetSchema,
+    Transact,
 }
 
 /// The method of this name.
@@ -27,6 +33,7 @@ pub(crate) fn method_of(name: &str) -> Option<Method>
         "echo" => Some(Method::Echo),
         "list_dbs" => Some(Method::ListDbs),
         "get_schema" => Some(Method::GetSchema),
+        "transact" => Some(Method::Transact),
         _ => None,
     }
 }
@@ -64,7 +71,58 @@ fn schema_in(alloc: Global, params: &Value) -> Result<Result<Value, Word>, OutOf
     }
 }
 
+/// Runs a transaction. Gives its results, and the rows after it, unless it fails or these break a rule.
+fn transacted(
+    alloc: Global,
+    rows: &Rows,
+    params: &Value,
+) -> Result<(Value, Option<Rows>), OutOfMemory>
+    ensures value { IfOk result (λ t. transacted (means (ops_in (view params.now)) rows.now) ≡ (view t.0, t.1)) }
+    ensures plain { IfOk result (λ t. has_float (view t.0) ≡ false) }
+{
+    let ops = read_ops(alloc, params)?;
+    let mut after = rows.copy(alloc)?;
+    let outcome = transact(alloc, &mut after, &ops)?;
+    if outcome.failed {
+        let results = finish(alloc, &outcome, None)?;
+        return Ok((results, None));
+    }
+    match committed(alloc, after)? {
+        Ok(rows) => {
+            let results = finish(alloc, &outcome, None)?;
+            Ok((results, Some(rows)))
+        }
+        Err(rule) => {
+            let results = finish(alloc, &outcome, Some(rule))?;
+            Ok((results, None))
+        }
+    }
+}
+
 impl Vtep {
+    /// Runs a transaction, for those who name the database.
+    fn transact_in(&mut self, params: &Value) -> Result<Result<Value, Word>, OutOfMemory>
+        ensures left { IfOk result (λ _. self.new ≡ (transact_in self.old (view params.now) (in_database (view params.now))).vtep) }
+        ensures quiet { (transact_in self.old (view params.now) (in_database (view params.now))).before ≡ [] }
+        ensures result { IfOk result (λ r. seen r ≡ (transact_in self.old (view params.now) (in_database (view params.now))).result) }
+        ensures plain { IfOk result (λ r. IfOk r (λ v. has_float (view v) ≡ false)) }
+    {
+        if let Err(word) = in_database(params) {
+            return Ok(Err(word));
+        }
+        let (results, rows) = transacted(self.alloc, &self.rows, params)?;
+        self.keep(rows);
+        Ok(Ok(results))
+    }
+
+    fn keep(&mut self, rows: Option<Rows>)
+        ensures { self.new ≡ keep self.old rows }
+    {
+        if let Some(rows) = rows {
+            self.rows = rows;
+        }
+    }
+
     /// Does what a session requests. Adds what is sent before the reply, and gives the result or the word of refusal.
     pub(crate) fn called(
         &mut self,
@@ -83,6 +141,7 @@ impl Vtep {
             Some(Method::Echo) => Ok(Ok(params)),
             Some(Method::ListDbs) => Ok(Ok(databases(self.alloc)?)),
             Some(Method::GetSchema) => schema_in(self.alloc, &params),
+            Some(Method::Transact) => self.transact_in(&params),
             None => Ok(Err(Word::UnknownMethod)),
         }
     }

@@ -65,7 +65,7 @@ fn answers(rt: HostRuntime) -> Result<(), Fail> {
             b"{\"error\":\"unknown database\",\"id\":{},\"result\":null}",
         ),
         (
-            b"{\"method\":\"transact\",\"params\":[\"hardware_vtep\"],\"id\":\"\"}",
+            b"{\"method\":\"monitor\",\"params\":[\"hardware_vtep\"],\"id\":\"\"}",
             b"{\"error\":\"unknown method\",\"id\":\"\",\"result\":null}",
         ),
     ];
@@ -145,5 +145,129 @@ fn is_named(rt: HostRuntime) -> Result<(), Fail> {
     assert_eq!(rt; gateway.name().as_slice(), b"g1".as_slice());
     assert_eq!(rt; gateway.ip(), Ipv4::parse(b"10.0.0.1")?);
     assert!(rt; !gateway.stopped());
+    Ok(())
+}
+
+#[test]
+fn transacts(rt: HostRuntime) -> Result<(), Fail> {
+    let alloc = rt.alloc();
+    let mut gateway = gateway(alloc)?;
+    let cases: [(&[u8], &[u8]); 5] = [
+        (
+            b"{\"method\":\"transact\",\"params\":[],\"id\":0}",
+            b"{\"error\":\"syntax error\",\"id\":0,\"result\":null}",
+        ),
+        (
+            b"{\"method\":\"transact\",\"params\":[\"vtep\"],\"id\":1}",
+            b"{\"error\":\"unknown database\",\"id\":1,\"result\":null}",
+        ),
+        (
+            b"{\"method\":\"transact\",\"params\":[\"hardware_vtep\",{\"op\":\"insert\",\"table\":\"Logical_Switch\",\"row\":{\"name\":\"red\"}}],\"id\":2}",
+            b"{\"error\":null,\"id\":2,\"result\":[{\"uuid\":[\"uuid\",\"0a000001-0000-8000-8000-000000000003\"]}]}",
+        ),
+        (
+            b"{\"method\":\"transact\",\"params\":[\"hardware_vtep\",{\"op\":\"insert\",\"table\":\"Logical_Switch\",\"row\":{\"name\":\"red\"}}],\"id\":3}",
+            b"{\"error\":null,\"id\":3,\"result\":[{\"uuid\":[\"uuid\",\"0a000001-0000-8000-8000-000000000004\"]},{\"error\":\"constraint violation\"}]}",
+        ),
+        (
+            b"{\"method\":\"transact\",\"params\":[\"hardware_vtep\",{\"op\":\"select\",\"table\":\"Logical_Switch\",\"where\":[],\"columns\":[\"name\"]},{\"op\":\"abort\"}],\"id\":4}",
+            b"{\"error\":null,\"id\":4,\"result\":[{\"rows\":[{\"name\":\"red\"}]},{\"error\":\"aborted\"}]}",
+        ),
+    ];
+    for (request, reply) in &cases {
+        sends(&rt, alloc, &mut gateway, 1, request, &[*reply])?;
+    }
+    assert_eq!(rt; gateway.rows().counter(), 3);
+    Ok(())
+}
+
+#[test]
+fn has_ports(rt: HostRuntime) -> Result<(), Fail> {
+    let alloc = rt.alloc();
+    let mut gateway = gateway(alloc)?;
+    let name = Name::parse(b"p1")?;
+    let port = Event::Port { name };
+    let unport = Event::Unport { name };
+    assert_eq!(rt;
+        step(&rt, &mut gateway, &unport)?.refused,
+        Some(EventRefused::NoPort)
+    );
+    assert_eq!(rt; step(&rt, &mut gateway, &port)?.refused, None);
+    assert_eq!(rt;
+        step(&rt, &mut gateway, &port)?.refused,
+        Some(EventRefused::Repeated)
+    );
+    assert!(rt; gateway.has_port(&name));
+    assert_eq!(rt; step(&rt, &mut gateway, &unport)?.refused, None);
+    assert!(rt; !gateway.has_port(&name));
+    assert_eq!(rt; gateway.rows().counter(), 3);
+    Ok(())
+}
+
+/// One piece that inserts as many switches, whose names are numbers as addresses.
+fn insertions(alloc: Global, count: u32) -> Result<Event, Fail> {
+    let mut piece = Bytes::new(alloc);
+    piece.append(b"{\"method\":\"transact\",\"params\":[\"hardware_vtep\"")?;
+    for number in 0..count {
+        piece.append(b",{\"op\":\"insert\",\"table\":\"Logical_Switch\",\"row\":{\"name\":\"")?;
+        Ipv4::from_bits(number).print(&mut piece)?;
+        piece.append(b"\"}}")?;
+    }
+    piece.append(b"],\"id\":1}")?;
+    Ok(Event::Bytes { session: 1, piece })
+}
+
+#[test]
+fn has_room_for_switches(rt: HostRuntime) -> Result<(), Fail> {
+    let alloc = rt.alloc();
+    let mut gateway = gateway(alloc)?;
+    let answer = step(&rt, &mut gateway, &insertions(alloc, 1025)?)?;
+    assert_eq!(rt; answer.sends.len(), 1);
+    let end =
+        b"{\"uuid\":[\"uuid\",\"0a000001-0000-8000-8000-000000000403\"]},{\"error\":\"constraint violation\"}]}";
+    assert!(rt; answer.sends.as_slice()[0].bytes.as_slice().ends_with(end));
+    assert_eq!(rt; gateway.rows().counter(), 2);
+    Ok(())
+}
+
+#[test]
+fn has_room_for_ports(rt: HostRuntime) -> Result<(), Fail> {
+    let alloc = rt.alloc();
+    let mut gateway = gateway(alloc)?;
+    for number in 0..64 {
+        let name = Name::parse(&[b'p', b'0' + number / 10, b'0' + number % 10])?;
+        assert_eq!(rt;
+            step(&rt, &mut gateway, &Event::Port { name })?.refused,
+            None
+        );
+        assert!(rt; gateway.has_port(&name));
+    }
+    let name = Name::parse(b"p64")?;
+    let answer = step(&rt, &mut gateway, &Event::Port { name })?;
+    assert_eq!(rt; answer.refused, Some(EventRefused::Ports));
+    assert!(rt; !gateway.has_port(&name));
+    assert_eq!(rt; gateway.rows().counter(), 66);
+    Ok(())
+}
+
+#[test]
+fn forgets_what_a_hangup_cut(rt: HostRuntime) -> Result<(), Fail> {
+    let alloc = rt.alloc();
+    let mut gateway = gateway(alloc)?;
+    let begin = b"{\"method\":\"transact\",\"params\":[\"hardware_vtep\",{\"op\":\"insert\"";
+    sends(&rt, alloc, &mut gateway, 1, begin, &[])?;
+    let hangup = Event::Hangup { session: 1 };
+    assert_eq!(rt; step(&rt, &mut gateway, &hangup)?.refused, None);
+    assert_eq!(rt; gateway.rows().counter(), 2);
+    let request = b"{\"method\":\"transact\",\"params\":[\"hardware_vtep\"],\"id\":1}";
+    let reply: &[u8] = b"{\"error\":null,\"id\":1,\"result\":[]}";
+    sends(&rt, alloc, &mut gateway, 1, request, &[reply])?;
+    let params = b" {\"method\":\"transact\",\"params\":{},\"id\":1}";
+    let answer = step(&rt, &mut gateway, &bytes(alloc, 2, params)?)?;
+    let framing = Framing {
+        offset: 1,
+        kind: FramingKind::BadMessage,
+    };
+    assert_eq!(rt; answer.failed, Some(framing));
     Ok(())
 }

@@ -3,6 +3,7 @@
 use std::alloc::Global;
 use std::marker::Model;
 use vtep_base::{Ipv4, Name};
+use vtep_rows::Rows;
 
 /// A tunnel end point.
 #[derive(Drop)]
@@ -10,6 +11,7 @@ pub(crate) struct Vtep {
     pub(crate) alloc: Global,
     pub(crate) name: Name,
     pub(crate) ip: Ipv4,
+    pub(crate) rows: Rows,
 }
 
 impl Model for Vtep {
@@ -20,5 +22,5 @@ impl Model for Vtep {
 
     ghost coded = { vtep_code };
 
-    ghost view = { λ v. record { name = v.name; ip = v.ip } };
+    ghost view = { λ v. record { name = v.name; ip = v.ip; rows = v.rows } };
 }

@@ -6,5 +6,5 @@ use Rattle.fabric_replay.proofs.plain.Plain.hangup.Goals as goal
 
 pub returns : goal.returns
 returns c =
-    subst (Runs (world_of c.args.self.now) (world_of c.step.new.self) [] [] (line.Hangup c.args.gateway.now c.args.session)) (sym c.no_session.ensures)
+    subst (Runs (world_of c.args.self.now) (world_of c.step.new.self) [] [] (line.Hangup c.args.gateway.now c.args.session)) (sym c.refusal.ensures)
     (hangup_runs c.args.self.now c.step.new.self c.args.gateway.now c.args.session c.in_ok-answer.answer (sym c.answers.ensures ∙ c.if-not-answers.false) c.in_ok-answer.ensures)

@@ -1,0 +1,17 @@
+-- What follows a change of the rows.
+use Rattle.std.specs.Prelude.{Option, Some, None, option_map, Result, Ok, Err}
+use Rattle.vtep_rows.specs.declared.soundness.Rule.{Rule}
+use Rattle.vtep_rows.specs.Rows.{Rows, collected}
+use Rattle.vtep_rows.specs.Sound.{breach}
+
+-- the first rule that the rows break
+abbrev pub broken : Rows → Option Rule
+broken r = option_map (λ b. b.rule) (breach r)
+
+abbrev pub judged : Rows → Option Rule → Result Rows Rule
+judged r None = Ok r
+judged r (Some rule) = Err rule
+
+-- rows that are to be named and that nothing names go; then the rules are checked
+abbrev pub commit : Rows → Result Rows Rule
+commit r = judged (collected r) (broken (collected r))

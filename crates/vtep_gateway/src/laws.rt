@@ -1,0 +1,32 @@
+//! What is refused changes nothing.
+
+ghost use Rattle.std.specs.Prelude.{◌≡◌, ℕ, true, [], Some};
+ghost use Rattle.serde_json.specs.Data.{Data};
+ghost use Rattle.vtep_base.specs.Reading.{Bytes};
+ghost use Rattle.rpc_framing.specs.Streams.{fed};
+ghost use Rattle.rpc_framing.specs.Pieces.{come};
+ghost use Rattle.transact_profile.specs.Meaning.{means};
+ghost use Rattle.transact_profile.specs.Transaction.{ops_in};
+ghost use Rattle.vtep_gateway.specs.declared.Event.{Event};
+ghost use Rattle.vtep_gateway.specs.declared.Event.TheVariants as event;
+ghost use Rattle.vtep_gateway.specs.declared.EventRefused.{EventRefused};
+ghost use Rattle.vtep_gateway.specs.Vtep.{Vtep};
+ghost use Rattle.vtep_gateway.specs.Gateway.{Gateway};
+ghost use Rattle.vtep_gateway.specs.Methods.{in_database, fails, transact_in};
+ghost use Rattle.vtep_gateway.specs.Sessions.{stream_of};
+ghost use Rattle.vtep_gateway.specs.Moves.{step};
+
+/// An event that is refused leaves the gateway as it was.
+pub fn refused_changes_nothing()
+    ensures { (g : Gateway) (e : Event) (why : EventRefused) → (step g e).answer.refused ≡ Some why → (step g e).gateway ≡ g }
+{}
+
+/// A transaction of which an operation fails, or which leaves rows that break a rule, changes no row and gives no number.
+pub fn failed_changes_nothing()
+    ensures { (v : Vtep) (params : Data) → fails (means (ops_in params) v.rows) ≡ true → (transact_in v params (in_database params)).vtep ≡ v }
+{}
+
+/// A piece that ends no message, as each piece of a refused session, changes no row. Messages before a refusal keep their effect.
+pub fn unfinished_changes_nothing()
+    ensures { (g : Gateway) (s : ℕ) (piece : Bytes) → (come (fed (stream_of g.streams s) piece)).messages ≡ [] → (step g (event.Bytes s piece)).gateway.vtep ≡ g.vtep }
+{}
