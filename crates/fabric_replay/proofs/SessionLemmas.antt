@@ -3,7 +3,7 @@ use Rattle.std.proofs.Common.{◌≡◌, ℕ, Bool, true, false, cond, [], ◌++
 use Rattle.vtep_base.specs.Reading.{Bytes}
 use Rattle.vtep_base.specs.Maps as maps
 use Rattle.vtep_gateway.specs.Gateway as vtep
-use Rattle.vtep_gateway.specs.Moves.{on_hangup}
+use Rattle.vtep_gateway.specs.Moves.{hung_up}
 use Rattle.vtep_gateway.specs.declared.Answer.{Answer}
 use Rattle.vtep_gateway.specs.declared.Event.{Event}
 use Rattle.vtep_gateway.specs.declared.Event.TheVariants as event
@@ -44,7 +44,7 @@ when_false true x y z is e = absurd (cc)
 when_false false x y z is e = e
 
 abbrev closed : vtep.Gateway → ℕ → vtep.Step
-closed h s = record { gateway = record h { streams = maps.remove h.streams s }; answer = vtep.nothing }
+closed h s = record { gateway = hung_up h s; answer = vtep.nothing }
 
 -- the gateway that refuses an event is as it was
 same_gateways : (p q : Plain) (e : Event) (a : Answer) (took : Answered p q e a) → took.after.state ≡ took.before.state → (world_of q).gateways ≡ (world_of p).gateways

@@ -6,7 +6,6 @@ use Rattle.std.proofs.lemmas.Bool.Decides.{nat_tests}
 use Rattle.std.proofs.lemmas.List.{take-append-drop, length-take-le}
 use Rattle.serde_json.specs.Data.{Data}
 use Rattle.vtep_base.specs.Reading.{Bytes}
-use Rattle.rpc_framing.specs.declared.Framing.{Framing}
 use Rattle.rpc_framing.specs.declared.FramingKind.{FramingKind}
 use Rattle.rpc_framing.specs.declared.FramingKind.TheVariants.{NotObject, TooDeep, TooLong, BadJson, BadMessage}
 use Rattle.rpc_framing.specs.declared.scan.Cursor.{Cursor}
@@ -220,7 +219,7 @@ fault_front limit bytes place BadMessage h = bad_message limit bytes h.1 ∙ ap 
 
 -- ---- the whole stream
 
-next_stands : (limit at : ℕ) (stream more : Bytes) (m : Message) (d : IsNext limit stream m more)
+pub next_stands : (limit at : ℕ) (stream more : Bytes) (m : Message) (d : IsNext limit stream m more)
     → next (stream_from limit stream at) ≡ record { answer = Gives m; left = stream_from limit more (past at (length d.space + length d.text)) }
 next_stands limit at stream more m d =
     next_behind limit at stream d.space d.bytes (Text (length d.text) m) d.behind (text_front_is limit d.bytes d.text more m d.has d.says)
@@ -249,7 +248,7 @@ same_message a b e = cc
 front_comes : (limit at : ℕ) (stream : Bytes) → next (stream_from limit stream at) ≡ next_by limit (unwhite stream) (past at (length (take (white stream) stream))) (front limit (unwhite stream))
 front_comes limit at stream = next_behind limit at stream (take (white stream) stream) (unwhite stream) (front limit (unwhite stream)) (has_white stream) refl
 
-next_of : (limit at : ℕ) (stream : Bytes) (m : Message) → (next (stream_from limit stream at)).answer ≡ Gives m → (more : Bytes) × IsNext limit stream m more
+pub next_of : (limit at : ℕ) (stream : Bytes) (m : Message) → (next (stream_from limit stream at)).answer ≡ Gives m → (more : Bytes) × IsNext limit stream m more
 next_of limit at stream m c = by (front limit (unwhite stream)) (front_says limit (unwhite stream)) (subst (λ n. n.answer ≡ Gives m) (front_comes limit at stream) c)
   where
     by : (f : Front) → IsFront limit (unwhite stream) f → (next_by limit (unwhite stream) (past at (length (take (white stream) stream))) f).answer ≡ Gives m → (more : Bytes) × IsNext limit stream m more
@@ -290,11 +289,3 @@ of_comes limit at stream (m ∷ ms) end c =
 
 pub what_stands_comes : WhatStandsComes
 what_stands_comes limit at stream ms end = (of_comes limit at stream ms end, to_comes limit at stream ms end)
-
--- a message that comes is said by a text
-pub said_next : (s : Stream) (m : Message) → (next s).answer ≡ Gives m → (text : Bytes) × Says text m
-said_next s m e = by s.limit s.rest s.at s.refused e
-  where
-    by : (limit : ℕ) (rest : Bytes) (at : ℕ) (r : Option Framing) → (next (record { limit = limit; rest = rest; at = at; refused = r })).answer ≡ Gives m → (text : Bytes) × Says text m
-    by limit rest at None e = let d = next_of limit at rest m e in (d.1.text, d.1.says)
-    by limit rest at (Some f) e = absurd (cc)

@@ -88,3 +88,18 @@ take_all (b ∷ text) = ap (λ bs. b ∷ bs) (take_all text)
 
 pub all_scanned : (limit : ℕ) (text : Bytes) (c : Cursor) → c.depth ≤ 64 → end_of limit text ≡ Open c → IsScanned limit text (length text) c
 all_scanned limit text c shallow e = record { within = omega arith; shallow = shallow; so_far = ap (end_of limit) (take_all text) ∙ e }
+
+-- a text that closes within one limit closes within each that it fits
+pub fits : (l m i : ℕ) (c : Cursor) (text : Bytes) (n : ℕ) → end_from l c i text ≡ At n → i + length text ≤ m → end_from m c i text ≡ At n
+fits l m i c [] n e h = absurd (cc)
+fits l m i c (x ∷ text) n e h =
+    rw (differ i m (λ f. omega (arith, f, h)))
+    (by ((after_byte c x).depth == 65) (i == l) ((after_byte c x).depth == 0) e (λ f. fits l m (i + 1) (after_byte c x) text n f (omega (arith, h))))
+  where
+    by : (deep long closed : Bool) → step deep long closed i (end_from l (after_byte c x) (i + 1) text) ≡ At n
+        → (end_from l (after_byte c x) (i + 1) text ≡ At n → end_from m (after_byte c x) (i + 1) text ≡ At n)
+        → step deep false closed i (end_from m (after_byte c x) (i + 1) text) ≡ At n
+    by true long closed e more = absurd (cc)
+    by false true closed e more = absurd (cc)
+    by false false true e more = e
+    by false false false e more = more e

@@ -4,3 +4,4 @@ pub mod Streams
 pub mod Pieces
 pub mod Written
 pub mod Division
+pub mod Told

@@ -9,6 +9,7 @@
 ghost use Rattle.std.specs.Prelude.{◌≡◌, ◌≤◌, ◌<◌, ℕ, false, drop, length, Some, None, option_map, IfOk, IfSome, IfNone, Err, OnOk, OnErr};
 ghost use Rattle.rpc_framing.specs.Said.{said};
 ghost use Rattle.rpc_framing.specs.Division.{WhatStandsComes};
+ghost use Rattle.rpc_framing.specs.Told.{IsTold, WhatIsToldComes};
 ghost use Rattle.serde_json.specs.Written.{has_float};
 ghost use Rattle.rpc_framing.specs.Written.{message_json};
 ghost use Rattle.rpc_framing.specs.Pieces.{come, comes_after, no_more, OneDivision, CutsDoNotMatter, StaysRefused};
@@ -156,7 +157,7 @@ impl Framer {
     }
 
     /// Takes the first message off the stream, or says where and why none can come. None where no whole one is there yet.
-    /// A message that comes has no fraction.
+    /// A message that comes has no fraction, and some whole text says it, so that `print` can write it.
     pub fn next(&mut self) -> Result<Option<Message>, NextFault>
         ensures ok { IfOk result (λ o. next self.old ≡ record { answer = answered (option_map said o); left = self.new }) }
         ensures refused { (f : Framing) → result ≡ Err (NextFault.Refused f) → next self.old ≡ record { answer = Refuses f; left = self.new } }
@@ -168,6 +169,7 @@ impl Framer {
         ensures waits { IfOk result (λ o. IfNone o (self.new.refused ≡ None)) }
         ensures shorter { IfOk result (λ o. IfSome o (λ _. length self.new.rest < length self.old.rest)) }
         ensures plain { IfOk result (λ o. IfSome o (λ m. has_float (message_json (said m)) ≡ false)) }
+        ensures told { IfOk result (λ o. IfSome o (λ m. IsTold (said m))) }
     {
         self.take()
     }
@@ -182,6 +184,11 @@ pub fn one_division()
 /// a text or a fault.
 pub fn what_stands_comes()
     ensures { WhatStandsComes }
+{}
+
+/// A law: a stream that begins with a whole text gives what it says, and goes on behind it.
+pub fn what_is_told_comes()
+    ensures { WhatIsToldComes }
 {}
 
 /// A law: cuts do not matter.

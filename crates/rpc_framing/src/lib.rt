@@ -6,7 +6,9 @@ mod printing;
 mod reading;
 mod scan;
 
-pub use framer::{Framer, cuts_do_not_matter, one_division, stays_refused, what_stands_comes};
+pub use framer::{
+    Framer, cuts_do_not_matter, one_division, stays_refused, what_is_told_comes, what_stands_comes,
+};
 pub use printing::print;
 use serde_json::Value;
 use vtep_base::Txt;

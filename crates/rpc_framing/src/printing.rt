@@ -1,11 +1,14 @@
 //! From messages to texts.
 
-ghost use Rattle.std.specs.Prelude.{◌≡◌, ◌++◌, ◌∷◌, [], ◌<◌, false, IfOk, OnOk, OnErr, string_bytes};
+ghost use Rattle.std.specs.Prelude.{◌≡◌, ◌++◌, ◌∷◌, [], ◌<◌, ◌≤◌, false, IfOk, OnOk, OnErr, string_bytes};
 ghost use Rattle.json.specs.Print.{escape_letter, escape_byte, escape, quoted};
 ghost use Rattle.std.specs.Char.{digit_char};
+ghost use Rattle.serde_json.specs.Data.{depth};
+ghost use Rattle.serde_json.specs.Read.{max_depth};
 ghost use Rattle.serde_json.specs.View.{view};
 ghost use Rattle.serde_json.specs.Written.{compact_text, has_float};
 ghost use Rattle.rpc_framing.specs.Said.{said};
+ghost use Rattle.rpc_framing.specs.Told.{IsTold, AppendsWhole, AppendsTelling, IsPrinted};
 ghost use Rattle.rpc_framing.specs.Written.{called_json, answer_json, message_json, message_text};
 
 use crate::Message;
@@ -77,12 +80,13 @@ fn quoted(alloc: Global, text: &[u8]) -> Result<Bytes, OutOfMemory>
 
 /// The text of a value.
 fn text_of(alloc: Global, value: &Value) -> Result<String, OutOfMemory>
-    ensures { IfOk result (λ s. has_float (view value.now) ≡ false → string_bytes s ≡ compact_text (view value.now)) }
+    ensures text { IfOk result (λ s. has_float (view value.now) ≡ false → string_bytes s ≡ compact_text (view value.now)) }
+    ensures printed { IfOk result (λ s. depth (view value.now) ≤ max_depth → IsPrinted (string_bytes s) (view value.now)) }
 {
     Ok(value.to_string(alloc)?)
 }
 
-/// Appends a call, of which the text of the id is given.
+/// Appends a request, or a notification where the id is null.
 fn print_call(
     alloc: Global,
     method: &Txt,
@@ -93,9 +97,11 @@ fn print_call(
     ensures ok { OnOk result (has_float (called_json method.now (view params.now) (view id.now)) ≡ false
         → out.new ≡ out.old ++ compact_text (called_json method.now (view params.now) (view id.now))) }
     ensures err { OnErr result (out.new ≡ out.old) }
+    ensures whole { OnOk result (depth (called_json method.now (view params.now) (view id.now)) ≤ 64
+        → AppendsWhole out.old out.new (called_json method.now (view params.now) (view id.now))) }
 {
     let id = text_of(alloc, id)?;
-    let method = quoted(alloc, method.as_slice())?;
+    let method = quoted(alloc, method.as_str().as_bytes())?;
     let params = text_of(alloc, params)?;
     out.append_all(&[
         b"{\"id\":",
@@ -108,6 +114,7 @@ fn print_call(
     ])
 }
 
+/// Appends a response.
 fn print_response(
     alloc: Global,
     outcome: &Value,
@@ -118,6 +125,8 @@ fn print_response(
     ensures ok { OnOk result (has_float (answer_json (view outcome.now) (view error.now) (view id.now)) ≡ false
         → out.new ≡ out.old ++ compact_text (answer_json (view outcome.now) (view error.now) (view id.now))) }
     ensures err { OnErr result (out.new ≡ out.old) }
+    ensures whole { OnOk result (depth (answer_json (view outcome.now) (view error.now) (view id.now)) ≤ 64
+        → AppendsWhole out.old out.new (answer_json (view outcome.now) (view error.now) (view id.now))) }
 {
     let error = text_of(alloc, error)?;
     let id = text_of(alloc, id)?;
@@ -133,10 +142,17 @@ fn print_response(
     ])
 }
 
-/// Appends a message without spaces, its keys in the order of their bytes.
+/// Appends a message without spaces, its keys in the order of their bytes. What is appended is a whole text that says the
+/// message, where there is one. Where memory is wanting, nothing is appended.
 pub fn print(alloc: Global, message: &Message, out: &mut Bytes) -> Result<(), OutOfMemory>
     ensures ok { OnOk result (has_float (message_json (said message.now)) ≡ false → out.new ≡ out.old ++ message_text (said message.now)) }
     ensures err { OnErr result (out.new ≡ out.old) }
+
+    // A message that some whole text says is said by what is appended. It has no fraction.
+    ensures told { OnOk result (IsTold (said message.now) → AppendsTelling out.old out.new (said message.now)) }
+
+    // Of each message, with fractions too, what is appended is read as its value.
+    ensures whole { OnOk result (depth (message_json (said message.now)) ≤ 64 → AppendsWhole out.old out.new (message_json (said message.now))) }
 {
     match message {
         Message::Request { method, params, id } => print_call(alloc, method, params, id, out),

@@ -1,5 +1,6 @@
 mod Counting
 mod JsonLists
 mod Pushing
+mod Selected
 mod Tables
 mod Worked

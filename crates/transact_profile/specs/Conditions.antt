@@ -1,5 +1,5 @@
 -- Names that stand for inserted rows, and the rows that meet conditions.
-use Rattle.std.specs.Prelude.{ℕ, ◌+◌, ℤ, pos, int_lt, int_le, Bool, true, false, not, if◌then◌else◌, List, [], ◌∷◌, ◌++◌, map, filter, Option, Some, None}
+use Rattle.std.specs.Prelude.{◌≡◌, ℕ, ◌+◌, ℤ, pos, int_lt, int_le, Bool, true, false, not, if◌then◌else◌, List, [], ◌∷◌, ◌++◌, map, filter, Option, Some, None}
 use Rattle.std.specs.List.{list_all}
 use Rattle.vtep_base.specs.Reading.{Bytes, same_bytes}
 use Rattle.ovsdb_values.specs.declared.atoms.Atom.{Atom}
@@ -112,6 +112,14 @@ compares_some f (Some cell) value = compares f cell value
 
 abbrev pub holds : ℕ → Contents → Condition → Bool
 holds id row c = compares_some c.function (cell_of id row c.field) c.value
+
+-- the condition holds of no row but the one with this identifier
+abbrev pub Asks : Condition → ℕ → Type 0
+Asks c id = (other : ℕ) (row : Contents) → holds other row c ≡ true → other ≡ id
+
+-- all conditions hold of no other row
+abbrev pub AsksFor : List Condition → ℕ → Type 0
+AsksFor cs id = (other : ℕ) (row : Contents) → list_all (holds other row) cs ≡ true → other ≡ id
 
 -- all conditions hold of a row that is there
 abbrev pub meets : List Condition → ℕ → Option Contents → Bool

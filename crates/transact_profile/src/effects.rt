@@ -14,7 +14,7 @@ ghost use Rattle.transact_profile.specs.Meaning.{insert, select, changed_at, cha
 use crate::faults::Fault;
 use crate::found::selected_rows;
 use crate::mutating::{mutated, updated};
-use crate::operations::{Condition, Field, Mutation, Op, Until};
+use crate::operations::{Condition, Field, Mutation, Op};
 use crate::outcomes::OpResult;
 use crate::parts::all_fields;
 use crate::resolving::{resolved_conditions, resolved_mutations, resolved_row, resolved_rows};
@@ -229,38 +229,18 @@ fn is_same(
     }
 }
 
-#[tactic(auto, unfolding(crate::specs::Meaning::wait))]
-fn wait(
-    alloc: Global,
-    rows: &Rows,
-    table: Table,
-    conditions: &[Condition],
-    columns: &Option<List<Field>>,
-    until: Until,
-    given: &[List<(Field, Datum)>],
-) -> Result<OpResult, Fault>
-    ensures { ReadsAs (λ reply. (seen reply, rows.now)) result (wait table conditions.now columns.now until given.now rows.now) }
-{
-    let ids = selected(alloc, rows, table, conditions)?;
-    let same = is_same(alloc, rows, table, columns, ids.as_slice(), given)?;
-    if !waits_for(until, same) {
-        return Err(Fault::Refused(Word::TimedOut));
-    }
-    Ok(OpResult::Empty)
-}
-
 fn update_named(
     alloc: Global,
     names: &[(Txt, RowId)],
     rows: &mut Rows,
     table: Table,
-    conditions: &[Condition],
-    row: &[(Column, Datum)],
+    conditions: &List<Condition>,
+    row: &List<(Column, Datum)>,
 ) -> Result<OpResult, Fault>
     ensures { ReadsAs (λ reply. (seen reply, rows.new)) result (update_step table (resolved_conditions names.now conditions.now) (resolved_cells names.now row.now) rows.old) }
 {
-    let conditions = resolved_conditions(alloc, names, conditions)?;
-    let row = resolved_row(alloc, names, row)?;
+    let conditions = resolved_conditions(alloc, names, conditions.as_slice())?;
+    let row = resolved_row(alloc, names, row.as_slice())?;
     update(alloc, rows, table, conditions.as_slice(), row.as_slice())
 }
 
@@ -269,13 +249,13 @@ fn mutate_named(
     names: &[(Txt, RowId)],
     rows: &mut Rows,
     table: Table,
-    conditions: &[Condition],
-    mutations: &[Mutation],
+    conditions: &List<Condition>,
+    mutations: &List<Mutation>,
 ) -> Result<OpResult, Fault>
     ensures { ReadsAs (λ reply. (seen reply, rows.new)) result (mutate_step table (resolved_conditions names.now conditions.now) (resolved_mutations names.now mutations.now) rows.old) }
 {
-    let conditions = resolved_conditions(alloc, names, conditions)?;
-    let mutations = resolved_mutations(alloc, names, mutations)?;
+    let conditions = resolved_conditions(alloc, names, conditions.as_slice())?;
+    let mutations = resolved_mutations(alloc, names, mutations.as_slice())?;
     mutate(
         alloc,
         rows,
@@ -303,12 +283,12 @@ fn select_named(
     names: &[(Txt, RowId)],
     rows: &Rows,
     table: Table,
-    conditions: &[Condition],
+    conditions: &List<Condition>,
     columns: &Option<List<Field>>,
 ) -> Result<OpResult, Fault>
     ensures { ReadsAs (λ reply. (seen reply, rows.now)) result (select_step table (resolved_conditions names.now conditions.now) columns.now rows.now) }
 {
-    let conditions = resolved_conditions(alloc, names, conditions)?;
+    let conditions = resolved_conditions(alloc, names, conditions.as_slice())?;
     Ok(select(alloc, rows, table, conditions.as_slice(), columns)?)
 }
 
@@ -317,40 +297,41 @@ fn delete_named(
     names: &[(Txt, RowId)],
     rows: &mut Rows,
     table: Table,
-    conditions: &[Condition],
+    conditions: &List<Condition>,
 ) -> Result<OpResult, Fault>
     ensures { ReadsAs (λ reply. (seen reply, rows.new)) result (delete_step table (resolved_conditions names.now conditions.now) rows.old) }
 {
-    let conditions = resolved_conditions(alloc, names, conditions)?;
+    let conditions = resolved_conditions(alloc, names, conditions.as_slice())?;
     Ok(delete(alloc, rows, table, conditions.as_slice())?)
 }
 
-fn wait_named(
+/// Whether the rows that are waited for are those that are there.
+fn is_same_named(
     alloc: Global,
     names: &[(Txt, RowId)],
     rows: &Rows,
     table: Table,
-    conditions: &[Condition],
+    conditions: &List<Condition>,
     columns: &Option<List<Field>>,
-    until: Until,
-    given: &[List<(Field, Datum)>],
-) -> Result<OpResult, Fault>
-    ensures { ReadsAs (λ reply. (seen reply, rows.now)) result (wait table (resolved_conditions names.now conditions.now) columns.now until (resolved_rows names.now given.now) rows.now) }
+    given: &List<List<(Field, Datum)>>,
+) -> Result<bool, OutOfMemory>
+    ensures { IfOk result (λ same. same ≡ same_rows (waited_fields table columns.now) rows.now table (selected table (resolved_conditions names.now conditions.now) rows.now) (resolved_rows names.now given.now)) }
 {
-    let conditions = resolved_conditions(alloc, names, conditions)?;
-    let given = resolved_rows(alloc, names, given)?;
-    wait(
+    let conditions = resolved_conditions(alloc, names, conditions.as_slice())?;
+    let given = resolved_rows(alloc, names, given.as_slice())?;
+    let ids = selected(alloc, rows, table, conditions.as_slice())?;
+    is_same(
         alloc,
         rows,
         table,
-        conditions.as_slice(),
         columns,
-        until,
+        ids.as_slice(),
         given.as_slice(),
     )
 }
 
 /// An operation, and what its names stand for.
+#[tactic(auto, unfolding(crate::specs::Meaning::wait))]
 pub(crate) fn run_op(
     alloc: Global,
     names: &[(Txt, RowId)],
@@ -365,34 +346,18 @@ pub(crate) fn run_op(
             table,
             conditions,
             columns,
-        } => select_named(alloc, names, rows, *table, conditions.as_slice(), columns),
+        } => select_named(alloc, names, rows, *table, conditions, columns),
         Op::Update {
             table,
             conditions,
             row,
-        } => update_named(
-            alloc,
-            names,
-            rows,
-            *table,
-            conditions.as_slice(),
-            row.as_slice(),
-        ),
+        } => update_named(alloc, names, rows, *table, conditions, row),
         Op::Mutate {
             table,
             conditions,
             mutations,
-        } => mutate_named(
-            alloc,
-            names,
-            rows,
-            *table,
-            conditions.as_slice(),
-            mutations.as_slice(),
-        ),
-        Op::Delete { table, conditions } => {
-            delete_named(alloc, names, rows, *table, conditions.as_slice())
-        }
+        } => mutate_named(alloc, names, rows, *table, conditions, mutations),
+        Op::Delete { table, conditions } => delete_named(alloc, names, rows, *table, conditions),
         Op::Wait {
             table,
             conditions,
@@ -400,16 +365,11 @@ pub(crate) fn run_op(
             until,
             rows: given,
         } => {
-            wait_named(
-                alloc,
-                names,
-                rows,
-                *table,
-                conditions.as_slice(),
-                columns,
-                *until,
-                given.as_slice(),
-            )
+            let same = is_same_named(alloc, names, rows, *table, conditions, columns, given)?;
+            if !waits_for(*until, same) {
+                return Err(Fault::Refused(Word::TimedOut));
+            }
+            Ok(OpResult::Empty)
         }
         Op::Commit { durable } => {
             if *durable {

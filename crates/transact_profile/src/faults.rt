@@ -6,6 +6,7 @@ use vtep_base::{OutOfMemory, Word};
 #[derive(Clone, Copy, Debug, PartialEq, Eq)]
 pub enum Fault {
     OutOfMemory,
+    /// The word that refuses it.
     Refused(Word),
 }
 

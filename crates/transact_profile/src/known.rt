@@ -10,6 +10,7 @@ use vtep_base::{List, Txt};
 pub struct Known {
     /// Each name is one of them: the known insertions are still looked for.
     pub every: bool,
+    /// The names of the known insertions, in their order.
     pub names: List<Option<Txt>>,
 }
 

@@ -9,17 +9,24 @@ use vtep_schema::{Column, Table};
 pub enum Field {
     /// `_uuid`.
     Id,
+    /// A column.
     Of(Column),
 }
 
 /// How a condition compares the column with its value.
 #[derive(Clone, Copy, Debug, PartialEq, Eq)]
 pub enum Function {
+    /// `==`: it is the value.
     Equal,
+    /// `!=`: it is not the value.
     Unequal,
+    /// `<`: its number is less than that of the value.
     Less,
+    /// `<=`
     AtMost,
+    /// `>=`
     AtLeast,
+    /// `>`
     More,
     /// Every atom or pair of the value is in the column.
     Includes,
@@ -30,67 +37,88 @@ pub enum Function {
 /// How a mutation changes the column by its value.
 #[derive(Clone, Copy, Debug, PartialEq, Eq)]
 pub enum Mutator {
+    /// `+=`
     Add,
+    /// `-=`
     Subtract,
+    /// `*=`
     Multiply,
+    /// `/=`, towards zero.
     Divide,
+    /// `%=`, with the sign of the dividend.
     Remainder,
+    /// The atoms of the value, or the pairs of the value whose keys are not there, are put in.
     Insert,
+    /// The atoms or pairs of the value, or the pairs with these keys, are taken out.
     Delete,
 }
 
 /// What a wait asks of the matched rows and of those that it gives.
 #[derive(Clone, Copy, Debug, PartialEq, Eq)]
 pub enum Until {
+    /// `==`: they are the same set.
     Same,
+    /// `!=`: they are not.
     Different,
 }
 
 /// One element of the member `where`.
 #[derive(Drop)]
 pub struct Condition {
+    /// What is compared.
     pub field: Field,
+    /// How it is compared.
     pub function: Function,
+    /// What it is compared with.
     pub value: Datum,
 }
 
 /// One element of the member `mutations`.
 #[derive(Drop)]
 pub struct Mutation {
+    /// What is changed.
     pub column: Column,
+    /// How it is changed.
     pub mutator: Mutator,
+    /// By what it is changed.
     pub value: Datum,
 }
 
 /// An operation. A name in a value stands for a row that the transaction inserts.
 #[derive(Drop)]
 pub enum Op {
+    /// Makes a row of the table; a column that is not given has its default.
     Insert {
         table: Table,
         row: List<(Column, Datum)>,
         /// The member `uuid-name`.
         name: Option<Txt>,
     },
+    /// Gives the rows that meet the conditions.
     Select {
         table: Table,
         conditions: List<Condition>,
         /// None stands for `_uuid` and all columns.
         columns: Option<List<Field>>,
     },
+    /// Writes the values into each row that meets the conditions.
     Update {
         table: Table,
         conditions: List<Condition>,
         row: List<(Column, Datum)>,
     },
+    /// Does the mutations in order in each such row.
     Mutate {
         table: Table,
         conditions: List<Condition>,
         mutations: List<Mutation>,
     },
+    /// Removes each such row.
     Delete {
         table: Table,
         conditions: List<Condition>,
     },
+    /// Goes by where such rows, cut to the columns, are those that are given, or where they are not.
     Wait {
         table: Table,
         conditions: List<Condition>,
@@ -99,10 +127,13 @@ pub enum Op {
         until: Until,
         rows: List<List<(Field, Datum)>>,
     },
+    /// Does nothing; it fails where it is durable.
     Commit {
         durable: bool,
     },
+    /// Fails.
     Abort,
+    /// Does nothing.
     Comment,
 }
 
@@ -111,6 +142,7 @@ pub enum Op {
 pub struct OpFault {
     /// The place of the operation, from 0.
     pub index: u64,
+    /// Its first fault.
     pub word: Word,
 }
 

@@ -23,6 +23,7 @@ pub enum OpResult {
 /// The results of the operations of a transaction, in their order.
 #[derive(Drop)]
 pub struct Outcome {
+    /// One for each operation.
     pub results: List<OpResult>,
     /// An operation failed or can't be read.
     pub failed: bool,

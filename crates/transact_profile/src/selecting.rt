@@ -1,10 +1,10 @@
 //! The rows that meet conditions.
 
-ghost use Rattle.std.specs.Prelude.{◌≡◌, not, option_map, IfOk};
+ghost use Rattle.std.specs.Prelude.{◌≡◌, not, option_map, IfOk, IfSome};
 ghost use Rattle.std.specs.List.{list_all};
 ghost use Rattle.ovsdb_values.specs.Sets.{one, has_atom, has_pair};
 ghost use Rattle.ovsdb_values.specs.declared.atoms.Atom.TheVariants.{Id};
-ghost use Rattle.transact_profile.specs.Conditions.{all_in, none_in, number_in, compares, compares_some, value_of, holds, meets_at, selected};
+ghost use Rattle.transact_profile.specs.Conditions.{all_in, none_in, number_in, compares, compares_some, value_of, holds, Asks, AsksFor, meets_at, selected};
 
 use crate::operations::{Condition, Field, Function};
 use ovsdb_values::{Atom, AtomSet, Datum};
@@ -164,8 +164,64 @@ fn meets(
     }
 }
 
-/// The rows of a table that meet the conditions, by identifier.
-pub(crate) fn selected(
+/// The one identifier that a value holds.
+fn id_in(datum: &Datum) -> Option<RowId>
+    ensures { IfSome result (λ id. datum.now ≡ one (Id id)) }
+{
+    match datum {
+        Datum::Set(set) => match set.as_slice() {
+            [Atom::Id(id)] => Some(*id),
+            _ => None,
+        },
+        Datum::Map(_) => None,
+    }
+}
+
+/// The identifier that a condition on `_uuid` asks for.
+#[tactic(auto, using(crate::proofs::Selected::asks_for_id))]
+fn asked_by(condition: &Condition) -> Option<RowId>
+    ensures { IfSome result (λ id. Asks condition.now id) }
+{
+    match (condition.field, condition.function) {
+        (Field::Id, Function::Equal) => id_in(&condition.value),
+        _ => None,
+    }
+}
+
+/// The identifier that some condition on `_uuid` asks for.
+fn asked(conditions: &[Condition]) -> Option<RowId>
+    ensures { IfSome result (λ id. AsksFor conditions.now id) }
+{
+    'conditions: for condition in conditions {
+        if let Some(id) = asked_by(condition) {
+            return Some(id);
+        }
+    }
+    None
+}
+
+/// The row with the identifier that the conditions ask for, where it meets them all.
+#[tactic(auto, using(crate::proofs::Selected::one_selected, crate::proofs::Selected::none_selected))]
+fn looked_up(
+    alloc: Global,
+    rows: &Rows,
+    table: Table,
+    conditions: &[Condition],
+    id: RowId,
+) -> Result<List<RowId>, OutOfMemory>
+    requires { AsksFor conditions.now id }
+    ensures { IfOk result (λ ids. ids ≡ selected table conditions.now rows.now) }
+{
+    let mut ids = List::new(alloc);
+    if !meets(alloc, rows, table, conditions, id)? {
+        return Ok(ids);
+    }
+    ids.push(id)?;
+    Ok(ids)
+}
+
+/// Each row of the table that meets the conditions.
+fn scanned(
     alloc: Global,
     rows: &Rows,
     table: Table,
@@ -180,4 +236,20 @@ pub(crate) fn selected(
         }
     }
     Ok(ids)
+}
+
+/// The rows of a table that meet the conditions, by identifier. Where a condition asks for one identifier, that row is looked
+/// up, and the table is not gone through.
+pub(crate) fn selected(
+    alloc: Global,
+    rows: &Rows,
+    table: Table,
+    conditions: &[Condition],
+) -> Result<List<RowId>, OutOfMemory>
+    ensures { IfOk result (λ ids. ids ≡ selected table conditions.now rows.now) }
+{
+    match asked(conditions) {
+        Some(id) => looked_up(alloc, rows, table, conditions, id),
+        None => scanned(alloc, rows, table, conditions),
+    }
 }

@@ -1,4 +1,6 @@
 pub mod Taken
+pub mod Told
+pub mod Monitored
 pub mod Named
 pub mod Plain
 pub mod Open

@@ -13,12 +13,12 @@ use Rattle.transact_profile.specs.Meaning.{Outcome, means}
 use Rattle.transact_profile.specs.Transaction.{ops_in}
 use Rattle.transact_profile.specs.Finish.{finished}
 use Rattle.vtep_gateway.specs.Vtep.{Vtep}
-use Rattle.vtep_gateway.specs.Gateway.{Gateway, Step, nothing, refused, unchanged}
+use Rattle.vtep_gateway.specs.Gateway.{Gateway, Step, nothing, refused}
 use Rattle.vtep_gateway.specs.Methods.{keep, ended, fails, transact_in, in_database}
 use Rattle.vtep_gateway.specs.Commit.{commit}
 use Rattle.vtep_gateway.specs.Sessions.{stream_of, take_all}
 use Rattle.vtep_gateway.specs.Ports.{port_named, port_refusal, with_port, without_port}
-use Rattle.vtep_gateway.specs.Moves.{step, settled, changed, port_unless, unport_by}
+use Rattle.vtep_gateway.specs.Moves.{step, hung_up, settled, changed, port_unless, unport_by}
 use Rattle.vtep_gateway.specs.declared.Event.{Event}
 use Rattle.vtep_gateway.specs.declared.Event.TheVariants as event
 use Rattle.vtep_gateway.specs.declared.EventRefused.{EventRefused}
@@ -48,11 +48,11 @@ unport_stays : (g : Gateway) (o : Option ℕ) → Stays g (unport_by g o)
 unport_stays g None = λ w e. refl
 unport_stays g (Some id) = quiet_stays g (changed g (without_port g.vtep.rows id)) (changed_is_quiet g (without_port g.vtep.rows id))
 
-abbrev hung_up : Gateway → ℕ → Step
-hung_up g s = record { gateway = record g { streams = maps.remove g.streams s }; answer = nothing }
+abbrev closes : Gateway → ℕ → Step
+closes g s = record { gateway = hung_up g s; answer = nothing }
 
-hangup_stays : (g : Gateway) (s : ℕ) (b : Bool) → Stays g (cond b (hung_up g s) (refused g NoSession))
-hangup_stays g s true = quiet_stays g (hung_up g s) refl
+hangup_stays : (g : Gateway) (s : ℕ) (b : Bool) → Stays g (cond b (closes g s) (refused g NoSession))
+hangup_stays g s true = quiet_stays g (closes g s) refl
 hangup_stays g s false = λ w e. refl
 
 pub refused_stays : (g : Gateway) (e : Event) (why : EventRefused) → (step g e).answer.refused ≡ Some why → (step g e).gateway ≡ g

@@ -32,9 +32,9 @@ held_code =
     code_by (Vtep × (Streams × Bool)) (coded× vtep_code (coded× streams_code coded_bool))
     (λ h. (h.state.vtep, (h.state.streams, h.stopped))) (λ p. record { state = record { vtep = p.0; streams = p.1.0 }; stopped = p.1.1 }) (λ _. refl)
 
--- of which no session is open
+-- of which no session is open, and so none has monitors
 abbrev pub new_gateway : Bytes → ℕ → Gateway
-new_gateway name ip = record { vtep = record { name = name; ip = ip; rows = opening name ip }; streams = maps.empty }
+new_gateway name ip = record { vtep = record { name = name; ip = ip; rows = opening name ip; monitors = maps.empty }; streams = maps.empty }
 
 -- what an event comes to
 pub record Step : Type 0 where

@@ -1,3 +1,4 @@
+pub mod Monitors
 pub mod Vtep
 pub mod Gateway
 pub mod Commit

@@ -1,23 +1,28 @@
 -- What requests do (RFC 7047, section 4.1).
 use Rattle.std.specs.Prelude.{ℕ, ⊤, Bool, ◌||◌, if◌then◌else◌, List, [], ◌∷◌, Option, Some, None, option_and_then, codes, Result, Ok, Err, is_err}
-use Rattle.serde_json.specs.Data.{Data, string}
+use Rattle.serde_json.specs.Data.{Data, string, object, no_members}
 use Rattle.serde_json.specs.Find.{at, as_str}
 use Rattle.serde_json.specs.View.{view}
+use Rattle.serde_json.specs.Written.{compact_text}
 use Rattle.serde_json.specs.declared.value.Value.{Value}
 use Rattle.vtep_base.specs.Reading.{Bytes, same_bytes}
+use Rattle.vtep_base.specs.Maps as maps
 use Rattle.vtep_base.specs.declared.words.Word.{Word}
 use Rattle.vtep_base.specs.declared.words.Word.TheVariants as word
 use Rattle.json_notation.specs.Json.{list}
 use Rattle.vtep_schema.specs.Published.{schema_json}
 use Rattle.vtep_gateway.specs.declared.Outgoing.{Outgoing}
 use Rattle.vtep_gateway.specs.declared.methods.Method.{Method}
-use Rattle.vtep_gateway.specs.declared.methods.Method.TheVariants.{Echo, ListDbs, GetSchema, Transact}
+use Rattle.vtep_gateway.specs.declared.methods.Method.TheVariants.{Echo, ListDbs, GetSchema, Transact, Monitor, MonitorCancel}
 use Rattle.vtep_rows.specs.declared.soundness.Rule.{Rule}
 use Rattle.vtep_rows.specs.Rows.{Rows}
 use Rattle.transact_profile.specs.Meaning.{Reply, Outcome, means}
 use Rattle.transact_profile.specs.Transaction.{ops_in}
 use Rattle.transact_profile.specs.Finish.{finished}
-use Rattle.vtep_gateway.specs.Vtep.{Vtep, with_rows}
+use Rattle.monitor_updates.specs.Requests.{or_refuse, ◌>>?◌, request_of}
+use Rattle.monitor_updates.specs.Updates.{opening_json}
+use Rattle.vtep_gateway.specs.Monitors.{Watch, watches_of, with_watch, told_all, is_free, asks, left_by}
+use Rattle.vtep_gateway.specs.Vtep.{Vtep, with_rows, with_monitors}
 use Rattle.vtep_gateway.specs.Commit.{commit}
 
 abbrev pub method_of : Bytes → Option Method
@@ -26,6 +31,8 @@ method_of name =
     else if same_bytes name (codes "list_dbs") then Some ListDbs
     else if same_bytes name (codes "get_schema") then Some GetSchema
     else if same_bytes name (codes "transact") then Some Transact
+    else if same_bytes name (codes "monitor") then Some Monitor
+    else if same_bytes name (codes "monitor_cancel") then Some MonitorCancel
     else None
 
 -- what a request does: the tunnel end point, what is sent before the reply, and the result or the word
@@ -77,9 +84,38 @@ abbrev pub keep : Vtep → Option Rows → Vtep
 keep v None = v
 keep v (Some r) = with_rows v r
 
+-- the monitors are told how the rows differ
+abbrev pub tells : Vtep → Option Rows → List Outgoing
+tells v None = []
+tells v (Some r) = told_all v.rows r v.monitors
+
 abbrev pub transact_in : Vtep → Data → Result ⊤ Word → Done
-transact_in v params (Ok _) = let t : Data × Option Rows = transacted (means (ops_in params) v.rows) in only (keep v t.1) (Ok t.0)
+transact_in v params (Ok _) = let t : Data × Option Rows = transacted (means (ops_in params) v.rows) in record { vtep = keep v t.1; before = tells v t.1; result = Ok t.0 }
 transact_in v params (Err w) = only v (Err w)
+
+-- the monitor that is asked for, or the first refusal: of the parameters' form, of the database, of the name, and of what is asked of the tables
+abbrev pub watch_for : List Watch → Data → Result Watch Word
+watch_for ws params =
+    or_refuse word.SyntaxError (asks params) >>? λ a.
+    in_database params >>? λ _.
+    is_free ws (compact_text a.0) >>? λ _.
+    request_of a.1 >>? λ request.
+    Ok (record { name = compact_text a.0; request = request })
+
+-- the monitor is opened, and the rows that are there are the result
+abbrev pub monitor_by : Vtep → ℕ → Result Watch Word → Done
+monitor_by v s (Ok w) = only (with_monitors v (with_watch v.monitors s w)) (Ok (opening_json w.request v.rows))
+monitor_by v s (Err w) = only v (Err w)
+
+abbrev pub cancel_by : Vtep → ℕ → Result (List Watch) Word → Done
+cancel_by v s (Ok ws) = only (with_monitors v (maps.insert v.monitors s ws)) (Ok (object no_members))
+cancel_by v s (Err w) = only v (Err w)
+
+abbrev pub monitor_in : Vtep → ℕ → Data → Done
+monitor_in v s params = monitor_by v s (watch_for (watches_of v.monitors s) params)
+
+abbrev pub cancel_in : Vtep → ℕ → Data → Done
+cancel_in v s params = cancel_by v s (left_by (watches_of v.monitors s) params)
 
 -- what a session's request does: the session, the method, the parameters
 abbrev pub called : Vtep → ℕ → Option Method → Data → Done
@@ -87,6 +123,8 @@ called v s (Some Echo) params = only v (Ok params)
 called v s (Some ListDbs) params = only v (Ok databases)
 called v s (Some GetSchema) params = only v (schema_in params)
 called v s (Some Transact) params = transact_in v params (in_database params)
+called v s (Some Monitor) params = monitor_in v s params
+called v s (Some MonitorCancel) params = cancel_in v s params
 called v s None params = only v (Err word.UnknownMethod)
 
 -- the result that the code holds

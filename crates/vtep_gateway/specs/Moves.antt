@@ -10,16 +10,21 @@ use Rattle.vtep_gateway.specs.declared.EventRefused.{EventRefused}
 use Rattle.vtep_gateway.specs.declared.EventRefused.TheVariants.{NoSession, NoPort}
 use Rattle.vtep_gateway.specs.Gateway.{Gateway, Step, nothing, unchanged, refused}
 use Rattle.vtep_gateway.specs.Sessions.{on_bytes}
-use Rattle.vtep_gateway.specs.Vtep.{with_rows}
+use Rattle.vtep_gateway.specs.Vtep.{with_rows, with_monitors}
+use Rattle.vtep_gateway.specs.Monitors.{told_all}
 use Rattle.vtep_gateway.specs.Commit.{commit}
 use Rattle.vtep_gateway.specs.Ports.{port_named, port_refusal, with_port, without_port}
 
-abbrev pub on_hangup : Gateway → ℕ → Step
-on_hangup g s = if maps.has g.streams s then record { gateway = record g { streams = maps.remove g.streams s }; answer = nothing } else refused g NoSession
+-- without the session's stream and its monitors
+abbrev pub hung_up : Gateway → ℕ → Gateway
+hung_up g s = record { vtep = with_monitors g.vtep (maps.remove g.vtep.monitors s); streams = maps.remove g.streams s }
 
--- the rows are kept where they break no rule
+abbrev pub on_hangup : Gateway → ℕ → Step
+on_hangup g s = if maps.has g.streams s then record { gateway = hung_up g s; answer = nothing } else refused g NoSession
+
+-- the rows are kept where they break no rule, and the monitors are told how they differ
 abbrev pub settled : Gateway → Result Rows Rule → Step
-settled g (Ok r) = record { gateway = record g { vtep = with_rows g.vtep r }; answer = nothing }
+settled g (Ok r) = record { gateway = record g { vtep = with_rows g.vtep r }; answer = record nothing { sends = told_all g.vtep.rows r g.vtep.monitors } }
 settled g (Err rule) = unchanged g
 
 abbrev pub changed : Gateway → Option Rows → Step

@@ -7,6 +7,7 @@ ghost use Rattle.vtep_gateway.specs.Ports.{port_named};
 ghost use Rattle.vtep_gateway.specs.Moves.{on_hangup, on_port, on_unport, changed, step};
 
 use crate::commit::committed;
+use crate::monitors::Monitors;
 use crate::ports::{port_named, port_refusal, with_port, without_port};
 use crate::streams::Streams;
 use crate::vtep::Vtep;
@@ -70,6 +71,7 @@ impl Gateway {
                 name,
                 ip,
                 rows,
+                monitors: Monitors::new(alloc),
             },
             streams: Streams::new(alloc),
             stopped: false,
@@ -134,20 +136,28 @@ impl Gateway {
         if !self.streams.close(session) {
             return refused(self.alloc, EventRefused::NoSession);
         }
+        self.vtep.close_monitors(session);
         nothing(self.alloc)
     }
 
-    /// Keeps the rows after a change, where they break no rule.
+    /// Keeps the rows after a change, where they break no rule, and tells the monitors of it.
     fn change(&mut self, rows: Option<Rows>) -> Result<Answer, OutOfMemory>
         ensures ok { IfOk result (λ a. changed self.old.state rows ≡ record { gateway = self.new.state; answer = a }) }
         ensures going { self.new.stopped ≡ self.old.stopped }
     {
-        if let Some(rows) = rows {
-            if let Ok(rows) = committed(self.alloc, rows)? {
-                self.vtep.rows = rows;
-            }
-        }
-        Ok(nothing(self.alloc))
+        let Some(rows) = rows else {
+            return Ok(nothing(self.alloc));
+        };
+        let Ok(rows) = committed(rows)? else {
+            return Ok(nothing(self.alloc));
+        };
+        let mut sends = List::new(self.alloc);
+        self.vtep.adopt(rows, &mut sends)?;
+        Ok(Answer {
+            sends,
+            failed: None,
+            refused: None,
+        })
     }
 
     fn on_port(&mut self, name: &Name) -> Result<Answer, OutOfMemory>

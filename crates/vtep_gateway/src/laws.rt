@@ -1,7 +1,11 @@
 //! What is refused changes nothing.
 
-ghost use Rattle.std.specs.Prelude.{◌≡◌, ℕ, true, [], Some};
+ghost use Rattle.std.specs.Prelude.{◌≡◌, ℕ, true, [], ◌∷◌, Some, codes};
 ghost use Rattle.serde_json.specs.Data.{Data};
+ghost use Rattle.serde_json.specs.Written.{compact_text};
+ghost use Rattle.json_notation.specs.Json.{list};
+ghost use Rattle.rpc_framing.specs.Said.{Notification};
+ghost use Rattle.rpc_framing.specs.Written.{message_text};
 ghost use Rattle.vtep_base.specs.Reading.{Bytes};
 ghost use Rattle.rpc_framing.specs.Streams.{fed};
 ghost use Rattle.rpc_framing.specs.Pieces.{come};
@@ -13,6 +17,7 @@ ghost use Rattle.vtep_gateway.specs.declared.EventRefused.{EventRefused};
 ghost use Rattle.vtep_gateway.specs.Vtep.{Vtep};
 ghost use Rattle.vtep_gateway.specs.Gateway.{Gateway};
 ghost use Rattle.vtep_gateway.specs.Methods.{in_database, fails, transact_in};
+ghost use Rattle.vtep_gateway.specs.Monitors.{update_text};
 ghost use Rattle.vtep_gateway.specs.Sessions.{stream_of};
 ghost use Rattle.vtep_gateway.specs.Moves.{step};
 
@@ -29,4 +34,10 @@ pub fn failed_changes_nothing()
 /// A piece that ends no message, as each piece of a refused session, changes no row. Messages before a refusal keep their effect.
 pub fn unfinished_changes_nothing()
     ensures { (g : Gateway) (s : ℕ) (piece : Bytes) → (come (fed (stream_of g.streams s) piece)).messages ≡ [] → (step g (event.Bytes s piece)).gateway.vtep ≡ g.vtep }
+{}
+
+/// An update as it is sent is the notification `update` whose params are the monitor's name and the table updates (RFC 7047, section
+/// 4.1.6).
+pub fn updates_are_notifications()
+    ensures { (id : Data) → (updates : Data) → update_text (compact_text id) updates ≡ message_text (Notification (codes "update") (list (id ∷ updates ∷ []))) }
 {}

@@ -5,13 +5,19 @@ mod commit;
 mod gateway;
 mod laws;
 mod methods;
+mod monitoring;
+mod monitors;
 mod ports;
 mod replies;
 mod streams;
 mod vtep;
+mod watches;
 
 pub use gateway::Gateway;
-pub use laws::{failed_changes_nothing, refused_changes_nothing, unfinished_changes_nothing};
+pub use laws::{
+    failed_changes_nothing, refused_changes_nothing, unfinished_changes_nothing,
+    updates_are_notifications,
+};
 use rpc_framing::Framing;
 use vtep_base::{Bytes, List, Name};
 
@@ -58,5 +64,7 @@ pub struct Answer {
     pub refused: Option<EventRefused>,
 }
 
+#[cfg(test)]
+mod monitor_tests;
 #[cfg(test)]
 mod tests;

@@ -5,7 +5,7 @@ ghost use Rattle.transact_profile.specs.Meaning.{means};
 ghost use Rattle.transact_profile.specs.Transaction.{ops_in};
 ghost use Rattle.serde_json.specs.View.{view};
 ghost use Rattle.serde_json.specs.Written.{has_float};
-ghost use Rattle.vtep_gateway.specs.Methods.{method_of, in_database, databases, schema_in, transacted, transact_in, keep, called, seen};
+ghost use Rattle.vtep_gateway.specs.Methods.{method_of, in_database, databases, schema_in, transacted, transact_in, called, seen};
 
 use crate::Outgoing;
 use crate::commit::committed;
@@ -23,6 +23,8 @@ pub(crate) enum Method {
     ListDbs,
     GetSchema,
     Transact,
+    Monitor,
+    MonitorCancel,
 }
 
 /// The method of this name.
@@ -34,12 +36,14 @@ pub(crate) fn method_of(name: &str) -> Option<Method>
         "list_dbs" => Some(Method::ListDbs),
         "get_schema" => Some(Method::GetSchema),
         "transact" => Some(Method::Transact),
+        "monitor" => Some(Method::Monitor),
+        "monitor_cancel" => Some(Method::MonitorCancel),
         _ => None,
     }
 }
 
 /// The first of the parameters is the name of the database.
-fn in_database(params: &Value) -> Result<(), Word>
+pub(crate) fn in_database(params: &Value) -> Result<(), Word>
     ensures { result ≡ in_database (view params.now) }
 {
     let Some(name) = params.get(0).and_then(Value::as_str) else {
@@ -87,7 +91,7 @@ fn transacted(
         let results = finish(alloc, &outcome, None)?;
         return Ok((results, None));
     }
-    match committed(alloc, after)? {
+    match committed(after)? {
         Ok(rows) => {
             let results = finish(alloc, &outcome, None)?;
             Ok((results, Some(rows)))
@@ -101,9 +105,13 @@ fn transacted(
 
 impl Vtep {
     /// Runs a transaction, for those who name the database.
-    fn transact_in(&mut self, params: &Value) -> Result<Result<Value, Word>, OutOfMemory>
+    fn transact_in(
+        &mut self,
+        params: &Value,
+        sends: &mut List<Outgoing>,
+    ) -> Result<Result<Value, Word>, OutOfMemory>
         ensures left { IfOk result (λ _. self.new ≡ (transact_in self.old (view params.now) (in_database (view params.now))).vtep) }
-        ensures quiet { (transact_in self.old (view params.now) (in_database (view params.now))).before ≡ [] }
+        ensures before { IfOk result (λ _. sends.new ≡ sends.old ++ (transact_in self.old (view params.now) (in_database (view params.now))).before) }
         ensures result { IfOk result (λ r. seen r ≡ (transact_in self.old (view params.now) (in_database (view params.now))).result) }
         ensures plain { IfOk result (λ r. IfOk r (λ v. has_float (view v) ≡ false)) }
     {
@@ -111,16 +119,8 @@ impl Vtep {
             return Ok(Err(word));
         }
         let (results, rows) = transacted(self.alloc, &self.rows, params)?;
-        self.keep(rows);
+        self.keep(rows, sends)?;
         Ok(Ok(results))
-    }
-
-    fn keep(&mut self, rows: Option<Rows>)
-        ensures { self.new ≡ keep self.old rows }
-    {
-        if let Some(rows) = rows {
-            self.rows = rows;
-        }
     }
 
     /// Does what a session requests. Adds what is sent before the reply, and gives the result or the word of refusal.
@@ -141,7 +141,9 @@ impl Vtep {
             Some(Method::Echo) => Ok(Ok(params)),
             Some(Method::ListDbs) => Ok(Ok(databases(self.alloc)?)),
             Some(Method::GetSchema) => schema_in(self.alloc, &params),
-            Some(Method::Transact) => self.transact_in(&params),
+            Some(Method::Transact) => self.transact_in(&params, sends),
+            Some(Method::Monitor) => self.monitor(session, &params),
+            Some(Method::MonitorCancel) => self.monitor_cancel(session, &params),
             None => Ok(Err(Word::UnknownMethod)),
         }
     }

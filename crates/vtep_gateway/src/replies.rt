@@ -46,6 +46,16 @@ fn response(alloc: Global, outcome: Result<Value, Word>, id: Value) -> Result<Me
     }
 }
 
+/// A message for a session.
+pub(crate) fn sent(alloc: Global, session: u32, message: &Message) -> Result<Outgoing, OutOfMemory>
+    requires plain { has_float (message_json (said message.now)) ≡ false }
+    ensures { IfOk result (λ o. o ≡ outgoing session (said message.now)) }
+{
+    let mut bytes = Bytes::new(alloc);
+    print(alloc, message, &mut bytes)?;
+    Ok(Outgoing { session, bytes })
+}
+
 /// The reply to a session's request.
 fn reply(
     alloc: Global,
@@ -58,9 +68,7 @@ fn reply(
     ensures { IfOk result (λ o. o ≡ outgoing session (response (seen outcome) (view id))) }
 {
     let message = response(alloc, outcome, id)?;
-    let mut bytes = Bytes::new(alloc);
-    print(alloc, &message, &mut bytes)?;
-    Ok(Outgoing { session, bytes })
+    sent(alloc, session, &message)
 }
 
 impl Vtep {

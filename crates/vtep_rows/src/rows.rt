@@ -18,6 +18,7 @@ use vtep_schema::Table;
 /// The rows of a gateway: a finite map from a table and an identifier to a row, and the greatest row number given.
 #[derive(Drop)]
 pub struct Rows {
+    alloc: Global,
     made: u32,
     counter: u64,
     rows: Store,
@@ -108,6 +109,7 @@ impl Rows {
         ensures { IfOk result (λ rows. rows ≡ opening name.now ip) }
     {
         let mut rows = Rows {
+            alloc,
             made: ip.bits(),
             counter: 0,
             rows: Store::new(alloc),
@@ -124,6 +126,7 @@ impl Rows {
         ensures { IfOk result (λ copy. copy ≡ self.now) }
     {
         Ok(Rows {
+            alloc,
             made: self.made,
             counter: self.counter,
             rows: self.rows.copy(alloc)?,
@@ -145,6 +148,11 @@ impl Rows {
         Ids {
             rest: self.of_table(table),
         }
+    }
+
+    /// What the rows take their memory from.
+    pub(crate) fn alloc(&self) -> Global {
+        self.alloc
     }
 
     pub(crate) fn has(&self, table: Table, id: RowId) -> bool

@@ -1,4 +1,3 @@
-use Rattle.vtep_rows.specs.Rows.{Rows}
 use Rattle.vtep_rows.proofs.Kept.{one_added}
 use Rattle.vtep_rows.proofs.rows.Rows.add.Goals as goal
 

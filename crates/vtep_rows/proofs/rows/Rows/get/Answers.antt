@@ -1,7 +1,7 @@
-use Rattle.std.proofs.Common.{◌≡◌, true, sym, ap, subst, ◌∙◌}
+use Rattle.std.proofs.Common.{ap, subst, ◌∙◌}
 use Rattle.vtep_base.specs.Maps as maps
-use Rattle.vtep_rows.specs.Rows.{Rows, IsRows, row_at, next_id, inserted, replaced, removed, last_number}
-use Rattle.vtep_rows.proofs.Kept.{shown_table, is_fresh, still_inserted, still_replaced, still_removed}
+use Rattle.vtep_rows.specs.Rows.{IsRows}
+use Rattle.vtep_rows.proofs.Kept.{shown_table}
 use Rattle.vtep_rows.proofs.rows.Rows.get.Goals as goal
 
 pub returns-clause-table : goal.returns-clause-table

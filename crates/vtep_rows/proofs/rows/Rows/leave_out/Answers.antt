@@ -1,8 +1,5 @@
-use Rattle.std.proofs.Common.{◌≡◌, [], sym, ap, subst, ◌∙◌}
-use Rattle.vtep_base.specs.Maps.{Map}
-use Rattle.vtep_rows.specs.Row.{Contents}
-use Rattle.vtep_rows.specs.Rows.{Rows, Key, key_cmp, IsRows, without, unnamed_from, collected}
-use Rattle.vtep_rows.proofs.Kept.{same_rows}
+use Rattle.std.proofs.Common.{sym, ap, subst, ◌∙◌}
+use Rattle.vtep_rows.specs.Rows.{IsRows, collected}
 use Rattle.vtep_rows.proofs.Collected.{all_left_out, still_collected}
 use Rattle.vtep_rows.proofs.rows.Rows.leave_out.Goals as goal
 

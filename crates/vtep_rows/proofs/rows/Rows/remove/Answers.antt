@@ -1,10 +1,6 @@
-use Rattle.std.proofs.Common.{◌≡◌, ◌<◌, true, map, is_some, sym, ap, subst, ◌∙◌}
-use Rattle.vtep_base.specs.Maps as maps
-use Rattle.vtep_schema.specs.Tables.{same_table}
-use Rattle.std.specs.List.{filter}
-use Rattle.vtep_rows.specs.Row.{is_row}
-use Rattle.vtep_rows.specs.Rows.{Rows, IsRows, row_at, row_id, next_id, inserted, replaced, removed, last_number}
-use Rattle.vtep_rows.proofs.Kept.{is_fresh, still_inserted, still_replaced, still_removed, same_rows, one_added, ids_are}
+use Rattle.std.proofs.Common.{sym, ap, subst, ◌∙◌}
+use Rattle.vtep_rows.specs.Rows.{IsRows, row_at, removed}
+use Rattle.vtep_rows.proofs.Kept.{still_removed, same_rows}
 use Rattle.vtep_rows.proofs.rows.Rows.remove.Goals as goal
 
 pub invariant_of-self : goal.invariant_of-self

@@ -1,7 +1,7 @@
-use Rattle.std.proofs.Common.{◌≡◌, ◌<◌, true, is_some, sym, ap, subst, ◌∙◌}
+use Rattle.std.proofs.Common.{◌≡◌, true, is_some, sym, ap, subst, ◌∙◌}
 use Rattle.vtep_base.specs.Maps as maps
-use Rattle.vtep_rows.specs.Rows.{Rows, IsRows, row_at, next_id, inserted, replaced, last_number}
-use Rattle.vtep_rows.proofs.Kept.{is_fresh, still_inserted, still_replaced, same_rows, one_added}
+use Rattle.vtep_rows.specs.Rows.{Rows, IsRows, row_at, replaced}
+use Rattle.vtep_rows.proofs.Kept.{still_replaced, same_rows}
 use Rattle.vtep_rows.proofs.rows.Rows.replace.Goals as goal
 use Rattle.vtep_rows.proofs.rows.Rows.replace.Goals.{In_ok-put}
 

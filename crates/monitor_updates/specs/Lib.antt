@@ -1,0 +1,6 @@
+pub mod Noted
+pub mod Updates
+pub mod Requests
+pub mod Seen
+pub mod Told
+pub mod Mirrored

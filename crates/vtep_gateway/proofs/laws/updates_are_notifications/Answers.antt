@@ -1,0 +1,5 @@
+use Rattle.vtep_gateway.proofs.Told.{update_is}
+use Rattle.vtep_gateway.proofs.laws.updates_are_notifications.Goals as goal
+
+pub returns : goal.returns
+returns c = update_is

@@ -1,9 +1,0 @@
-use Rattle.std.proofs.Common.{ap, ◌∙◌, ◌++◌}
-use Rattle.rpc_framing.specs.Written.{message_text}
-use Rattle.rpc_framing.specs.Said.{said}
-use Rattle.vtep_gateway.proofs.replies.reply.Goals as goal
-
-pub returns : goal.returns
-returns c =
-    ap (λ b. record { session = c.args.session; bytes = b })
-    (c.in_ok-print.ensures.ok c.in_ok-message.ensures.plain ∙ ap (λ b. b ++ message_text (said c.in_ok-message.message)) c.new-bytes.ensures ∙ ap message_text c.in_ok-message.ensures.value)
