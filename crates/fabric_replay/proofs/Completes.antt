@@ -1,13 +1,13 @@
 -- A script that is not refused is run whole.
-use Rattle.std.proofs.Common.{◌≡◌, ◌⊎◌, inl, inr, ◌<◌, ◌^◌, List, [], ◌∷◌, ◌++◌, length, take, Option, Some, None, refl, sym, ap, ◌∙◌, append-nil, arith}
+use Rattle.std.proofs.Common.{◌≡◌, ℕ, ◌⊎◌, inl, inr, ◌<◌, ◌^◌, List, [], ◌∷◌, ◌++◌, length, take, Option, Some, None, refl, sym, ap, ◌∙◌, append-nil, arith}
 use Rattle.std.proofs.lemmas.List.{length-append, take_at}
 use Rattle.vtep_base.specs.Reading.{Bytes}
-use Rattle.vtep_base.specs.Outside.{SourceState, SinkState, Grows, Shrinks, IsSpent}
+use Rattle.vtep_base.specs.Outside.{SourceState, SinkState, Grows, Shrinks, IsSpent, Rose}
 use Rattle.vtep_base.specs.declared.answers.Status.{Status}
 use Rattle.vtep_base.specs.declared.answers.Status.TheVariants as status
 use Rattle.fabric_world.specs.Text.{cut}
 use Rattle.fabric_world.specs.declared.Form.{Form}
-use Rattle.fabric_world.specs.Script.{Stage, Waiting, Going, Over, Stopped, Inspecting, first_of, Played, behind, play, played, closing, Reading, Short, Ended, Full, IsOver, IsStopped, IsReading, Answers, HasEnded, Ran, IsAccepted, Completes, read_as, shown, output, refusal_text}
+use Rattle.fabric_world.specs.Script.{Stage, Waiting, Going, Over, Stopped, Inspecting, first_of, Played, behind, play, played, closing, Reading, Short, Ended, Full, IsOver, IsStopped, IsReading, Answers, AnswersForm, Ran, IsAccepted, Completes, read_as, shown, refusal_text}
 use Rattle.fabric_world.proofs.TextLaws.{play-over, play-stopped, played-append}
 
 -- ---- a front of a script that is over, or was refused
@@ -123,15 +123,15 @@ none_left : (o : Option Bytes) (rest : Bytes) → o ≡ Some rest → IsSpent o 
 none_left None rest e h = absurd (grind arith)
 none_left (Some x) rest e h = grind arith
 
-same_rest : (source after : SourceState) (text rest : Bytes) (how : Reading) → IsReading (HasEnded source after) text how → after.left ≡ Some rest → how ≡ Ended → rest ≡ []
+same_rest : (source after : SourceState) (text rest : Bytes) (how : Reading) → IsReading source after text how → after.left ≡ Some rest → how ≡ Ended → rest ≡ []
 same_rest source after text rest Short read e h = absurd (grind arith)
 same_rest source after text rest Ended read e h = none_left after.left rest e read.spent
 same_rest source after text rest Full read e h = absurd (grind arith)
 
-same_length : (has_ended : Type 0) (text : Bytes) (how : Reading) → IsReading has_ended text how → how ≡ Full → length text ≡ 2 ^ 28
-same_length has_ended text Short read h = absurd (grind arith)
-same_length has_ended text Ended read h = absurd (grind arith)
-same_length has_ended text Full read h = read
+same_length : (source after : SourceState) (text : Bytes) (how : Reading) → IsReading source after text how → how ≡ Full → length text ≡ 2 ^ 28
+same_length source after text Short read h = absurd (grind arith)
+same_length source after text Ended read h = absurd (grind arith)
+same_length source after text Full read h = read.0
 
 by_answer : (first : Stage) (a : Status) (text written rest : Bytes) (how : Reading) (before after : Option Bytes) → (how ≡ Ended → rest ≡ []) → (how ≡ Full → length text ≡ 2 ^ 28)
     → Answers (read_as first how text) how written a → (a ≡ status.ReadFault → ⊥) → (a ≡ status.WriteFault → ⊥) → Grows before written after → IsAccepted first (text ++ rest)
@@ -143,17 +143,17 @@ by_answer first status.WriteFault text written rest how before after ended full 
 by_answer first status.NoMemory text written rest how before after ended full h no_read no_write grows accepted = inl refl
 by_answer first _ text written rest how before after ended full h no_read no_write grows accepted = absurd h
 
-pub completes : (what : Form) (source after : SourceState) (sink last : SinkState) (a : Status) → Ran (Some what) source after sink last a → Completes what source after sink last a
+pub completes : (what : Form) (source after : SourceState) (sink last : SinkState) (a : Status) → Ran (AnswersForm (Some what)) source after sink last a → Completes what source after sink last a
 completes what source after sink last a r script e accepted no_source no_sink =
     let told = told_rest source.left after.left script r.text e r.left in
     rw told.2 (by_answer (first_of what) a r.text r.written told.0 r.answers.how sink.written last.written
     (same_rest source after r.text told.0 r.answers.how r.answers.read told.1)
-    (same_length (HasEnded source after) r.text r.answers.how r.answers.read)
+    (same_length source after r.text r.answers.how r.answers.read)
     r.answers.answers (λ h. no_source (r.read_fault h)) (λ h. no_sink (r.write_fault h)) r.wrote (rw (sym told.2) accepted))
 
 same_form : (asked : Option Form) (what form : Form) → asked ≡ Some what → asked ≡ Some form → form ≡ what
 same_form asked what form e h = grind arith
 
 pub completes_asked : (asked : Option Form) (what form : Form) (source after : SourceState) (sink last : SinkState) (a : Status) → asked ≡ Some what
-    → Ran (Some what) source after sink last a → asked ≡ Some form → Completes form source after sink last a
+    → Ran (AnswersForm (Some what)) source after sink last a → asked ≡ Some form → Completes form source after sink last a
 completes_asked asked what form source after sink last a e r h = rw (same_form asked what form e h) (completes what source after sink last a r)

@@ -3,6 +3,7 @@ pub mod PlainLemmas
 pub mod SessionLemmas
 pub mod PortLemmas
 pub mod LinesOfPieces
-mod Ends
+pub mod HexText
+pub mod Ends
 mod SoFar
 mod Completes

@@ -6,9 +6,9 @@ use Rattle.std.proofs.lemmas.List.{take-append-drop, at_drop_more, get_or-take, 
 use Rattle.vtep_base.specs.Reading.{Bytes}
 use Rattle.memchr.specs.Find.{IsFirstByte, is_byte, NoneBefore, Passes}
 use Rattle.fabric_world.specs.Text.{without_return, NoFeed, cut}
-use Rattle.fabric_world.specs.Script.{Stage, play, play_one}
-use Rattle.fabric_world.proofs.TextLaws.{cut-line, cut-rest}
-use Rattle.fabric_replay.specs.Stages.{EndsLine, Plays, Feeds}
+use Rattle.fabric_world.specs.Script.{Stage, behind, play, play_one, read_behind}
+use Rattle.fabric_world.proofs.TextLaws.{cut-line, cut-rest, read-more}
+use Rattle.fabric_replay.specs.Stages.{EndsLine, Plays, Feeds, FeedsAs}
 
 -- ---- carriage returns
 
@@ -92,3 +92,13 @@ feeds_all old now old_front front piece rest before after none text stage same =
       stage = ap (λ c. (play now c.0).stage) (sym all) ∙ stage;
       front = ap (λ c. c.1) (sym all) ∙ same;
     }
+
+pub feeds_as : (old new : Stage) (front new_front piece before after : Bytes) → Feeds old front piece before new new_front after → FeedsAs (read_behind front old) piece before (read_behind new_front new) after
+feeds_as old new front new_front piece before after f = record {
+  text = (play old (cut front piece).0).text;
+  wrote = f.text;
+  silent = refl;
+  meaning = λ how rest. read-more front old how piece rest
+      ∙ ap (λ s. behind (play old (cut front piece).0).text (read_behind (cut front piece).1 s how rest)) (sym f.stage)
+      ∙ ap (λ r. behind (play old (cut front piece).0).text (read_behind r new how rest)) (sym f.front);
+}

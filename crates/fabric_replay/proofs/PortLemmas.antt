@@ -1,11 +1,10 @@
 -- What a port that joins or leaves does to the gateway, in the plain world.
-use Rattle.std.proofs.Common.{◌≡◌, ◌<◌, ℕ, Bool, true, false, [], ◌++◌, map, length, Option, Some, None, option_map, refl, sym, ap, ◌∙◌, arith}
+use Rattle.std.proofs.Common.{◌≡◌, ◌<◌, true, false, ◌++◌, map, length, Option, Some, None, option_map, refl, sym, ap, ◌∙◌, arith}
 use Rattle.std.specs.Prelude.{nat_le}
 use Rattle.std.specs.List.{list_any}
 use Rattle.std.proofs.lemmas.Bool.Decides.{nat_tests}
 use Rattle.vtep_base.specs.Reading.{Bytes, same_bytes}
 use Rattle.vtep_base.specs.Maps as maps
-use Rattle.vtep_gateway.specs.Gateway as vtep
 use Rattle.vtep_gateway.specs.Gateway.{Held}
 use Rattle.vtep_gateway.proofs.Refused.{refused_stays}
 use Rattle.vtep_gateway.specs.Moves as moves
@@ -14,7 +13,7 @@ use Rattle.vtep_gateway.specs.declared.Event.{Event}
 use Rattle.vtep_gateway.specs.declared.Event.TheVariants as event
 use Rattle.vtep_gateway.specs.declared.EventRefused.{EventRefused}
 use Rattle.fabric_world.specs.declared.Line.TheVariants.{Port, Unport}
-use Rattle.fabric_world.specs.World.{World, Site, Message, fault_of, event_fault, event_outputs, fault, step, moved, at_site, at_gateway, with_port, without_port, outputs, outputs_text}
+use Rattle.fabric_world.specs.World.{World, Site, Message, fault_of, event_fault, event_outputs, fault, moved, at_site, at_gateway, with_port, without_port, outputs_text}
 use Rattle.fabric_replay.specs.PlainWorld.{world_of, site_of, only, gateways_of, Answered, Runs}
 use Rattle.fabric_replay.specs.declared.plain.Plain.{Plain}
 use Rattle.fabric_replay.proofs.PlainLemmas.{same_world, has_only, known, changed, gateway_known, gateway_changed}

@@ -1,5 +1,5 @@
 -- What a gateway does with the events of sessions, in the plain world.
-use Rattle.std.proofs.Common.{◌≡◌, ℕ, Bool, true, false, cond, [], ◌++◌, Option, Some, None, option_map, refl, sym, ap, subst, ◌∙◌}
+use Rattle.std.proofs.Common.{◌≡◌, ℕ, Bool, true, false, cond, [], ◌++◌, Some, None, option_map, refl, sym, ap, subst, ◌∙◌}
 use Rattle.vtep_base.specs.Reading.{Bytes}
 use Rattle.vtep_base.specs.Maps as maps
 use Rattle.vtep_gateway.specs.Gateway as vtep
@@ -10,7 +10,7 @@ use Rattle.vtep_gateway.specs.declared.Event.TheVariants as event
 use Rattle.vtep_gateway.specs.declared.EventRefused.TheVariants.{NoSession}
 use Rattle.fabric_world.specs.declared.Fault.TheVariants.{Unknown}
 use Rattle.fabric_world.specs.declared.Line.TheVariants.{Rpc, Hangup}
-use Rattle.fabric_world.specs.World.{World, fault_of, fault, step, moved, outputs, outputs_text, answer_outputs, piece_outputs}
+use Rattle.fabric_world.specs.World.{World, fault_of, fault, moved, outputs, outputs_text, answer_outputs, piece_outputs}
 use Rattle.fabric_replay.specs.PlainWorld.{world_of, only, gateways_of, Answered, Runs}
 use Rattle.fabric_replay.specs.declared.plain.Plain.{Plain}
 use Rattle.fabric_replay.proofs.PlainLemmas.{same_world, gateway_known, gateway_changed}

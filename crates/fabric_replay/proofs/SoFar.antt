@@ -1,17 +1,15 @@
 -- A run, piece by piece.
-use Rattle.std.proofs.Common.{◌≡◌, ℕ, ◌+◌, ◌≤◌, ◌^◌, [], ◌++◌, length, take, Option, Some, refl, sym, ap, ◌∙◌, append_assoc, append-nil, arith}
+use Rattle.std.proofs.Common.{◌≡◌, ℕ, ◌+◌, ◌≤◌, ◌^◌, [], ◌++◌, length, take, Option, Some, None, refl, sym, ap, ◌∙◌, append_assoc, append-nil, arith}
 use Rattle.std.proofs.lemmas.List.{length-append, length-take-le}
 use Rattle.vtep_base.specs.Reading.{Bytes}
 use Rattle.vtep_base.specs.Outside.{SourceState, SinkState, Grows, Shrinks, Rose, counted, TakesPiece, TakesEnd, TakesFault}
 use Rattle.vtep_base.specs.declared.answers.Status.{Status}
 use Rattle.vtep_base.specs.declared.answers.Status.TheVariants as status
 use Rattle.vtep_base.proofs.Told.{grows-none, grows-more, grows-same, shrinks-none, shrinks-more}
-use Rattle.fabric_world.specs.Text.{cut}
-use Rattle.fabric_world.specs.declared.Form.{Form}
-use Rattle.fabric_world.specs.declared.Form.TheVariants.{Replay, Inspect}
-use Rattle.fabric_world.specs.Script.{Stage, first_of, Played, behind, play, played, closing, Reading, Short, Ended, Full, IsPrefix, IsGoing, IsReading, Answers, HasEnded, Ran, read_as, shown, refusal_text}
-use Rattle.fabric_world.proofs.TextLaws.{cut-append, played-append}
-use Rattle.fabric_replay.specs.Outcomes.{Wrote, GoesOn, SoFar}
+use Rattle.fabric_world.specs.Script.{Stage, Played, behind, Reading, Short, Ended, Full, Meaning, IsPrefix, IsGoing, IsReading, Answers, InStep, Replays, Ran, shown, refusal_text}
+use Rattle.fabric_world.proofs.TextLaws.{behind-behind}
+use Rattle.fabric_replay.specs.Outcomes.{Wrote, TakesOn, Continues, PlaysPiece, SoFar}
+use Rattle.fabric_replay.specs.Stages.{IsUnread, FeedsAs}
 
 -- ---- what stands behind what was written before
 
@@ -31,167 +29,222 @@ answers_behind o w p how status.WriteFault h = shown_behind o w p h
 answers_behind o w p how status.NoMemory h = shown_behind o w p h
 answers_behind o w p how _ h = absurd h
 
--- what a text and a further piece write, where there may be more
-short_more : (first : Stage) (text piece : Bytes) → behind (played first text).text (play (played first text).stage (cut (cut [] text).1 piece).0) ≡ read_as first Short (text ++ piece)
-short_more first text piece =
-    sym (played-append first text piece)
-    ∙ ap (λ t. record { text = t; stage = (played first (text ++ piece)).stage }) (sym (append-nil (played first (text ++ piece)).text))
+-- ---- a piece
+
+plain_short : (old new : Meaning) (piece : Bytes) (text : Bytes) → ((how : Reading) (rest : Bytes) → old how (piece ++ rest) ≡ behind text (new how rest)) → (new Short []).text ≡ []
+    → old Short piece ≡ record { text = text; stage = (new Short []).stage }
+plain_short old new piece text meaning silent =
+    ap (old Short) (sym (append-nil piece)) ∙ meaning Short [] ∙ ap (λ t. record { text = text ++ t; stage = (new Short []).stage }) silent
+    ∙ ap (λ t. record { text = t; stage = (new Short []).stage }) (append-nil text)
+
+pub plays_piece : (old new : Meaning) (piece before out : Bytes) (stage : Stage) (sink after : SinkState) (r : Option Status) → before ≡ [] → FeedsAs old piece before new out → stage ≡ (new Short []).stage
+    → Continues (record { text = out; stage = stage }) sink after r → PlaysPiece old piece new sink after r
+plays_piece old new piece before out stage sink after r none f s c = by r (f.wrote ∙ ap (λ t. t ++ f.text) none) c
+  where
+    by : (r : Option Status) → out ≡ f.text → Continues (record { text = out; stage = stage }) sink after r → PlaysPiece old piece new sink after r
+    by None e c = record {
+      text = f.text;
+      meaning = f.meaning;
+      stands = record { going = rw (sym s) c.going; silent = f.silent };
+      wrote = rw (sym e) c.wrote;
+      faults = c.faults;
+    }
+    by (Some a) e c = rw (plain_short old new piece f.text f.meaning f.silent) (rw (sym e) (rw (sym s) c))
 
 -- ---- the loop
 
-going_first : (what : Form) → IsGoing (first_of what)
-going_first Replay = tt
-going_first Inspect = tt
+module _ (whole : Meaning) where
+  pub starts : (source : SourceState) (sink : SinkState) (number : ℕ) → IsUnread whole → number ≤ 1 → SoFar whole source source sink sink whole number (2 ^ 28)
+  starts source sink number unread n = record {
+    text = [];
+    output = [];
+    took = grows-none source.taken;
+    told = shrinks-none source.left;
+    wrote = grows-none sink.written;
+    meaning = λ how more. refl;
+    stands = unread;
+    room = refl;
+    counted = omega (arith, n);
+    source_faults = omega arith;
+    sink_faults = omega arith;
+    ends = refl;
+  }
 
-pub starts : (what : Form) (source : SourceState) (sink : SinkState) (stage : Stage) (front : Bytes) (number : ℕ)
-    → stage ≡ first_of what → front ≡ [] → number ≡ 1 → SoFar (first_of what) source source sink sink stage front number (2 ^ 28)
-starts what source sink stage front number s f n = record {
-  text = [];
-  took = grows-none source.taken;
-  told = shrinks-none source.left;
-  wrote = grows-none sink.written;
-  going = going_first what;
-  stage_so = s;
-  front_so = f;
-  room = refl;
-  counted = omega (arith, n);
-  source_faults = omega arith;
-  sink_faults = omega arith;
-  ends = refl;
-}
+  pub goes_on : (source now next : SourceState) (sink after more : SinkState) (rest rest2 : Meaning) (buffer : Bytes) (number number2 left left2 room count : ℕ)
+      → SoFar whole source now sink after rest number left → TakesPiece now next room buffer count → count ≤ length buffer
+      → TakesOn rest (take count buffer) rest2 after more
+      → number2 ≤ number + count → left2 + count ≡ left
+      → SoFar whole source next sink more rest2 number2 left2
+  goes_on source now next sink after more rest rest2 buffer number number2 left left2 room count h t fits g n l =
+      let piece : Bytes = take count buffer in
+      let long : length piece ≡ count = length-take-le count buffer fits in
+      record {
+        text = h.text ++ piece;
+        output = h.output ++ g.text;
+        took = grows-more source.taken now.taken next.taken h.text piece h.took t.taken;
+        told = shrinks-more source.left now.left next.left h.text piece h.told t.left;
+        wrote = grows-more sink.written after.written more.written h.output g.text h.wrote g.wrote;
+        meaning = λ how later. ap (whole how) (append_assoc h.text piece later) ∙ h.meaning how (piece ++ later) ∙ ap (behind h.output) (g.meaning how later) ∙ behind-behind h.output g.text (rest2 how later);
+        stands = g.stands;
+        room = omega (arith, length-append h.text piece, long, h.room, l);
+        counted = omega (arith, length-append h.text piece, long, h.counted, n);
+        source_faults = omega (arith, h.source_faults, t.faults);
+        sink_faults = omega (arith, h.sink_faults, g.faults);
+        ends = t.ends ∙ h.ends;
+      }
 
-pub goes_on : (what : Form) (source now next : SourceState) (sink after more : SinkState) (stage stage2 : Stage) (front front2 buffer : Bytes) (number number2 left left2 room count : ℕ)
-    → SoFar (first_of what) source now sink after stage front number left → TakesPiece now next room buffer count → count ≤ length buffer
-    → GoesOn (play stage (cut front (take count buffer)).0) after more
-    → stage2 ≡ (play stage (cut front (take count buffer)).0).stage → front2 ≡ (cut front (take count buffer)).1
-    → number2 ≤ number + count → left2 + count ≡ left
-    → SoFar (first_of what) source next sink more stage2 front2 number2 left2
-goes_on what source now next sink after more stage stage2 front front2 buffer number number2 left left2 room count h t fits g s f n l =
-    let piece : Bytes = take count buffer in
-    let all : Bytes = h.text ++ piece in
-    let long : length piece ≡ count = length-take-le count buffer fits in
-    let same : played (first_of what) all ≡ behind (played (first_of what) h.text).text (play stage (cut front piece).0) =
-    played-append (first_of what) h.text piece ∙ ap (λ x. behind (played (first_of what) h.text).text (play x (cut (cut [] h.text).1 piece).0)) (sym h.stage_so) ∙ ap (λ x. behind (played (first_of what) h.text).text (play stage (cut x piece).0)) (sym h.front_so) in
-    record {
-      text = all;
-      took = grows-more source.taken now.taken next.taken h.text piece h.took t.taken;
-      told = shrinks-more source.left now.left next.left h.text piece h.told t.left;
-      wrote = rw same (grows-more sink.written after.written more.written (played (first_of what) h.text).text (play stage (cut front piece).0).text h.wrote g.wrote);
-      going = rw same g.going;
-      stage_so = s ∙ ap (λ p. p.stage) (sym same);
-      front_so = f ∙ ap (λ x. (cut x piece).1) h.front_so ∙ ap (λ c. c.1) (sym (cut-append h.text piece []));
-      room = omega (arith, length-append h.text piece, long, h.room, l);
-      counted = omega (arith, length-append h.text piece, long, h.counted, n);
-      source_faults = omega (arith, h.source_faults, t.faults);
-      sink_faults = omega (arith, h.sink_faults, g.faults);
-      ends = t.ends ∙ h.ends;
-    }
+  -- ---- its ends
 
--- ---- its ends
+  -- what was taken so far, where there may be more
+  so_far : (text output : Bytes) (rest : Meaning) → ((how : Reading) (more : Bytes) → whole how (text ++ more) ≡ behind output (rest how more)) → IsUnread rest
+      → whole Short text ≡ record { text = output; stage = (rest Short []).stage }
+  so_far text output rest meaning stands = plain_short whole rest text output meaning stands.silent
 
-rose_later : (a b c : ℕ) → a ≤ b → Rose b c → Rose a c
-rose_later a b c le r = omega (arith, le, r)
+  -- the end of the reading behind what was taken so far
+  at_end : (text output : Bytes) (rest : Meaning) (how : Reading) → ((how : Reading) (more : Bytes) → whole how (text ++ more) ≡ behind output (rest how more)) → behind output (rest how []) ≡ whole how text
+  at_end text output rest how meaning = sym (ap (whole how) (sym (append-nil text)) ∙ meaning how [])
 
-ran : (what : Form) (source next : SourceState) (sink after last : SinkState) (text : Bytes) (how : Reading) (p : Played) (a : Status)
-    → Grows source.taken text next.taken → Shrinks source.left text next.left → length text ≤ 2 ^ 28
-    → source.faults ≤ next.faults → sink.faults ≤ after.faults
-    → (o : Bytes) → Grows sink.written o after.written → behind o p ≡ read_as (first_of what) how text
-    → IsReading (HasEnded source next) text how
-    → Wrote p how after last a
-    → Ran (Some what) source next sink last a
-ran what source next sink after last text how p a took told most faults sink_faults o wrote same read w = record {
-  text = text;
-  written = o ++ w.output;
-  took = took;
-  left = told;
-  wrote = grows-more sink.written after.written last.written o w.output wrote w.wrote;
-  answers = record { how = how; read = read; answers = rw (sym same) (answers_behind o w.output p how a w.answers); most = most };
-  read_fault = λ e. absurd (w.no_read_fault e);
-  write_fault = λ e. rose_later sink.faults after.faults last.faults sink_faults (w.cause e);
-  source_faults = faults;
-  sink_faults = omega (arith, sink_faults, w.faults);
-}
+  in_step : (earlier last output more : Bytes) (stage : _) → length last ≤ 2 ^ 12 → whole Short earlier ≡ record { text = output; stage = stage } → IsGoing stage → InStep whole (earlier ++ last) (output ++ more)
+  in_step earlier last output more stage few same going = record {
+    earlier = earlier;
+    last = last;
+    taken = refl;
+    few = few;
+    going = rw same going;
+    output = record { rest = more; joined = ap (λ p. p.text ++ more) (sym same) };
+  }
 
-read_is_no_write : status.ReadFault ≡ status.WriteFault → ⊥
-read_is_no_write e = grind arith
+  in_step_whole : (text output more : Bytes) (stage : _) → whole Short text ≡ record { text = output; stage = stage } → IsGoing stage → InStep whole text (output ++ more)
+  in_step_whole text output more stage same going = record {
+    earlier = text;
+    last = [];
+    taken = sym (append-nil text);
+    few = omega arith;
+    going = rw same going;
+    output = record { rest = more; joined = ap (λ p. p.text ++ more) (sym same) };
+  }
 
-memory_is_no_read : status.NoMemory ≡ status.ReadFault → ⊥
-memory_is_no_read e = grind arith
+  rose_later : (a b c : ℕ) → a ≤ b → Rose b c → Rose a c
+  rose_later a b c le r = omega (arith, le, r)
 
-memory_is_no_write : status.NoMemory ≡ status.WriteFault → ⊥
-memory_is_no_write e = grind arith
+  ran : (source next : SourceState) (sink after last : SinkState) (text o : Bytes) (how : Reading) (p : Played) (a : Status)
+      → Grows source.taken text next.taken → Shrinks source.left text next.left → length text ≤ 2 ^ 28
+      → source.faults ≤ next.faults → sink.faults ≤ after.faults
+      → Grows sink.written o after.written → behind o p ≡ whole how text → IsReading source next text how
+      → ((more : Bytes) → InStep whole text (o ++ more))
+      → Wrote p how after last a
+      → Ran (Replays whole) source next sink last a
+  ran source next sink after last text o how p a took told most faults sink_faults wrote same read steps w = record {
+    text = text;
+    written = o ++ w.output;
+    took = took;
+    left = told;
+    wrote = grows-more sink.written after.written last.written o w.output wrote w.wrote;
+    answers = record {
+      how = how;
+      read = read;
+      answers = rw (sym same) (answers_behind o w.output p how a w.answers);
+      in_step = steps w.output;
+      most = most;
+    };
+    read_fault = λ e. absurd (w.no_read_fault e);
+    write_fault = λ e. rose_later sink.faults after.faults last.faults sink_faults (w.cause e);
+    source_faults = faults;
+    sink_faults = omega (arith, sink_faults, w.faults);
+  }
 
-shrinks_same : (a b c : Option Bytes) (x : Bytes) → Shrinks a x b → c ≡ b → Shrinks a x c
-shrinks_same a b c x h e = rw e h
+  read_is_no_write : status.ReadFault ≡ status.WriteFault → ⊥
+  read_is_no_write e = grind arith
 
-rises : (n : ℕ) → Rose n (counted n)
-rises n = omega arith
+  memory_is_no_read : status.NoMemory ≡ status.ReadFault → ⊥
+  memory_is_no_read e = grind arith
 
-pub ends_short : (what : Form) (source now next : SourceState) (sink after last : SinkState) (stage : Stage) (front buffer : Bytes) (number left room count : ℕ) (a : Status)
-    → SoFar (first_of what) source now sink after stage front number left → TakesPiece now next room buffer count → count ≤ length buffer → count ≤ left
-    → Wrote (play stage (cut front (take count buffer)).0) Short after last a
-    → Ran (Some what) source next sink last a
-ends_short what source now next sink after last stage front buffer number left room count a h t fits l w =
-    let piece : Bytes = take count buffer in
-    ran what source next sink after last (h.text ++ piece) Short (play stage (cut front piece).0) a
-    (grows-more source.taken now.taken next.taken h.text piece h.took t.taken)
-    (shrinks-more source.left now.left next.left h.text piece h.told t.left)
-    (omega (arith, length-append h.text piece, length-take-le count buffer fits, h.room, l))
-    (omega (arith, h.source_faults, t.faults)) h.sink_faults (played (first_of what) h.text).text h.wrote
-    (ap (λ x. behind (played (first_of what) h.text).text (play x (cut front piece).0)) h.stage_so ∙ ap (λ x. behind (played (first_of what) h.text).text (play (played (first_of what) h.text).stage (cut x piece).0)) h.front_so ∙ short_more (first_of what) h.text piece)
-    tt w
+  memory_is_no_write : status.NoMemory ≡ status.WriteFault → ⊥
+  memory_is_no_write e = grind arith
 
-pub ends_ended : (what : Form) (source now next : SourceState) (sink after last : SinkState) (stage : Stage) (front : Bytes) (number left : ℕ) (a : Status)
-    → SoFar (first_of what) source now sink after stage front number left → TakesEnd now next
-    → Wrote (closing Ended stage front) Ended after last a
-    → Ran (Some what) source next sink last a
-ends_ended what source now next sink after last stage front number left a h t w =
-    ran what source next sink after last h.text Ended (closing Ended stage front) a
-    (grows-same source.taken now.taken next.taken h.text h.took t.taken)
-    (shrinks_same source.left now.left next.left h.text h.told t.left)
-    (omega (arith, h.room))
-    (omega (arith, h.source_faults, t.faults)) h.sink_faults (played (first_of what) h.text).text h.wrote
-    (ap (λ x. behind (played (first_of what) h.text).text (closing Ended x front)) h.stage_so ∙ ap (λ x. behind (played (first_of what) h.text).text (closing Ended (played (first_of what) h.text).stage x)) h.front_so)
-    (record { ended = rw (t.ends ∙ ap counted h.ends) (rises source.ends); spent = rw t.left t.spent })
-    w
+  shrinks_same : (a b c : Option Bytes) (x : Bytes) → Shrinks a x b → c ≡ b → Shrinks a x c
+  shrinks_same a b c x h e = rw e h
 
-pub ends_failed : (what : Form) (source now next : SourceState) (sink after : SinkState) (stage : Stage) (front : Bytes) (number left : ℕ)
-    → SoFar (first_of what) source now sink after stage front number left → TakesFault now next
-    → Ran (Some what) source next sink after status.ReadFault
-ends_failed what source now next sink after stage front number left h t = record {
-  text = h.text;
-  written = (played (first_of what) h.text).text;
-  took = grows-same source.taken now.taken next.taken h.text h.took t.taken;
-  left = shrinks_same source.left now.left next.left h.text h.told t.left;
-  wrote = h.wrote;
-  answers = record { how = Short; read = tt; answers = (h.going, sym (append-nil (played (first_of what) h.text).text)); most = omega (arith, h.room) };
-  read_fault = λ e. rose_later source.faults now.faults next.faults h.source_faults t.rose;
-  write_fault = λ e. absurd (read_is_no_write e);
-  source_faults = omega (arith, h.source_faults, t.faults);
-  sink_faults = h.sink_faults;
-}
+  pub ends_short : (source now next : SourceState) (sink after last : SinkState) (rest : Meaning) (buffer : Bytes) (number left room count : ℕ) (a : Status)
+      → SoFar whole source now sink after rest number left → TakesPiece now next room buffer count → count ≤ length buffer → count ≤ left → count ≤ 2 ^ 12
+      → Wrote (rest Short (take count buffer)) Short after last a
+      → Ran (Replays whole) source next sink last a
+  ends_short source now next sink after last rest buffer number left room count a h t fits l few w =
+      let piece : Bytes = take count buffer in
+      let long : length piece ≡ count = length-take-le count buffer fits in
+      ran source next sink after last (h.text ++ piece) h.output Short (rest Short piece) a
+      (grows-more source.taken now.taken next.taken h.text piece h.took t.taken)
+      (shrinks-more source.left now.left next.left h.text piece h.told t.left)
+      (omega (arith, length-append h.text piece, long, h.room, l))
+      (omega (arith, h.source_faults, t.faults)) h.sink_faults h.wrote (sym (h.meaning Short piece)) (t.ends ∙ h.ends)
+      (λ more. in_step h.text piece h.output more (rest Short []).stage (omega (arith, long, few)) (so_far h.text h.output rest h.meaning h.stands) h.stands.going)
+      w
 
-pub ends_full : (what : Form) (source now : SourceState) (sink after last : SinkState) (stage : Stage) (front : Bytes) (number left : ℕ) (a : Status)
-    → SoFar (first_of what) source now sink after stage front number left → left ≡ 0
-    → Wrote (closing Full stage front) Full after last a
-    → Ran (Some what) source now sink last a
-ends_full what source now sink after last stage front number left a h l w =
-    ran what source now sink after last h.text Full (closing Full stage front) a
-    h.took h.told (omega (arith, h.room)) h.source_faults h.sink_faults (played (first_of what) h.text).text h.wrote
-    (ap (λ x. behind (played (first_of what) h.text).text (closing Full x front)) h.stage_so)
-    (omega (arith, h.room, l))
-    w
+  pub ends_ended : (source now next : SourceState) (sink after last : SinkState) (rest : Meaning) (number left : ℕ) (a : Status)
+      → SoFar whole source now sink after rest number left → TakesEnd now next
+      → Wrote (rest Ended []) Ended after last a
+      → Ran (Replays whole) source next sink last a
+  ends_ended source now next sink after last rest number left a h t w =
+      ran source next sink after last h.text h.output Ended (rest Ended []) a
+      (grows-same source.taken now.taken next.taken h.text h.took t.taken)
+      (shrinks_same source.left now.left next.left h.text h.told t.left)
+      (omega (arith, h.room))
+      (omega (arith, h.source_faults, t.faults)) h.sink_faults h.wrote (at_end h.text h.output rest Ended h.meaning)
+      (record { ended = t.ends ∙ ap counted h.ends; spent = rw t.left t.spent })
+      (λ more. in_step_whole h.text h.output more (rest Short []).stage (so_far h.text h.output rest h.meaning h.stands) h.stands.going)
+      w
 
-pub ends_unread : (what : Form) (source : SourceState) (sink : SinkState) → Ran (Some what) source source sink sink status.NoMemory
-ends_unread what source sink = record {
-  text = [];
-  written = [];
-  took = grows-none source.taken;
-  left = shrinks-none source.left;
-  wrote = grows-none sink.written;
-  answers = record { how = Short; read = tt; answers = record { rest = shown (read_as (first_of what) Short []); joined = refl }; most = omega arith };
-  read_fault = λ e. absurd (memory_is_no_read e);
-  write_fault = λ e. absurd (memory_is_no_write e);
-  source_faults = omega arith;
-  sink_faults = omega arith;
-}
+  pub ends_full : (source now : SourceState) (sink after last : SinkState) (rest : Meaning) (number left : ℕ) (a : Status)
+      → SoFar whole source now sink after rest number left → left ≡ 0
+      → Wrote (rest Full []) Full after last a
+      → Ran (Replays whole) source now sink last a
+  ends_full source now sink after last rest number left a h l w =
+      ran source now sink after last h.text h.output Full (rest Full []) a
+      h.took h.told (omega (arith, h.room)) h.source_faults h.sink_faults h.wrote (at_end h.text h.output rest Full h.meaning)
+      (omega (arith, h.room, l), h.ends)
+      (λ more. in_step_whole h.text h.output more (rest Short []).stage (so_far h.text h.output rest h.meaning h.stands) h.stands.going)
+      w
+
+  pub ends_failed : (source now next : SourceState) (sink after : SinkState) (rest : Meaning) (number left : ℕ)
+      → SoFar whole source now sink after rest number left → TakesFault now next
+      → Ran (Replays whole) source next sink after status.ReadFault
+  ends_failed source now next sink after rest number left h t =
+      let same = so_far h.text h.output rest h.meaning h.stands in
+      record {
+        text = h.text;
+        written = h.output;
+        took = grows-same source.taken now.taken next.taken h.text h.took t.taken;
+        left = shrinks_same source.left now.left next.left h.text h.told t.left;
+        wrote = h.wrote;
+        answers = record {
+          how = Short;
+          read = t.ends ∙ h.ends;
+          answers = rw same (h.stands.going, refl);
+          in_step = rw (sym (append-nil h.output)) (in_step_whole h.text h.output [] (rest Short []).stage same h.stands.going);
+          most = omega (arith, h.room);
+        };
+        read_fault = λ e. rose_later source.faults now.faults next.faults h.source_faults t.rose;
+        write_fault = λ e. absurd (read_is_no_write e);
+        source_faults = omega (arith, h.source_faults, t.faults);
+        sink_faults = h.sink_faults;
+      }
+
+  pub ends_unread : (source : SourceState) (sink : SinkState) → IsUnread whole → Ran (Replays whole) source source sink sink status.NoMemory
+  ends_unread source sink unread = record {
+    text = [];
+    written = [];
+    took = grows-none source.taken;
+    left = shrinks-none source.left;
+    wrote = grows-none sink.written;
+    answers = record {
+      how = Short;
+      read = refl;
+      answers = record { rest = shown (whole Short []); joined = refl };
+      in_step = record { earlier = []; last = []; taken = refl; few = omega arith; going = unread.going; output = record { rest = []; joined = sym (ap (λ t. t ++ []) unread.silent) } };
+      most = omega arith;
+    };
+    read_fault = λ e. absurd (memory_is_no_read e);
+    write_fault = λ e. absurd (memory_is_no_write e);
+    source_faults = omega arith;
+    sink_faults = omega arith;
+  }

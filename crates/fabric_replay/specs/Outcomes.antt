@@ -1,11 +1,11 @@
 -- What the parts of a run wrote, and how they answered.
-use Rattle.std.specs.Prelude.{◌≡◌, ℕ, ◌+◌, ◌≤◌, [], length, Option, Some, None, Result, Ok, Err}
+use Rattle.std.specs.Prelude.{◌≡◌, ℕ, ◌+◌, ◌≤◌, ◌++◌, length, Option, Some, None, Result, Ok, Err}
 use Rattle.vtep_base.specs.Reading.{Bytes}
 use Rattle.vtep_base.specs.Outside.{SourceState, SinkState, Grows, Shrinks, Rose}
 use Rattle.vtep_base.specs.declared.answers.Status.{Status}
 use Rattle.vtep_base.specs.declared.answers.Status.TheVariants as status
-use Rattle.fabric_world.specs.Text.{cut}
-use Rattle.fabric_world.specs.Script.{Stage, Waiting, Going, Over, Stopped, Inspecting, Played, played, Reading, Short, IsPrefix, IsGoing, Answers, AnswersUsage, most_bytes}
+use Rattle.fabric_replay.specs.Stages.{IsUnread}
+use Rattle.fabric_world.specs.Script.{Stage, Waiting, Going, Over, Stopped, Inspecting, Played, behind, Reading, Short, Meaning, IsPrefix, IsGoing, Answers, AnswersUsage, most_bytes}
 
 -- all bytes were written, or a front of them before the sink failed
 pub record PutsFront (old new : SinkState) (bytes : Bytes) : Type 0 where
@@ -50,15 +50,27 @@ abbrev pub Continues : Played → SinkState → SinkState → Option Status → 
 Continues p old new None = GoesOn p old new
 Continues p old new (Some answer) = Wrote p Short old new answer
 
--- what a run took and wrote up to the end of a piece, where the script goes on
-pub record SoFar (first : Stage) (source now : SourceState) (sink after : SinkState) (stage : Stage) (front : Bytes) (number left : ℕ) : Type 0 where
+-- a piece was run after which the run goes on
+pub record TakesOn (old : Meaning) (piece : Bytes) (new : Meaning) (before after : SinkState) : Type 0 where
   pub text : Bytes
+  pub meaning : (how : Reading) (rest : Bytes) → old how (piece ++ rest) ≡ behind text (new how rest)
+  pub stands : IsUnread new
+  pub wrote : Grows before.written text after.written
+  pub faults : before.faults ≤ after.faults
+
+abbrev pub PlaysPiece : Meaning → Bytes → Meaning → SinkState → SinkState → Option Status → Type 0
+PlaysPiece old piece new before after None = TakesOn old piece new before after
+PlaysPiece old piece new before after (Some answer) = Wrote (old Short piece) Short before after answer
+
+-- what a run took and wrote up to the end of a piece, where it goes on
+pub record SoFar (whole : Meaning) (source now : SourceState) (sink after : SinkState) (rest : Meaning) (number left : ℕ) : Type 0 where
+  pub text : Bytes
+  pub output : Bytes
   pub took : Grows source.taken text now.taken
   pub told : Shrinks source.left text now.left
-  pub wrote : Grows sink.written (played first text).text after.written
-  pub going : IsGoing (played first text).stage
-  pub stage_so : stage ≡ (played first text).stage
-  pub front_so : front ≡ (cut [] text).1
+  pub wrote : Grows sink.written output after.written
+  pub meaning : (how : Reading) (more : Bytes) → whole how (text ++ more) ≡ behind output (rest how more)
+  pub stands : IsUnread rest
   pub room : length text + left ≡ most_bytes
   pub counted : number ≤ length text + 1
   pub source_faults : source.faults ≤ now.faults

@@ -1,23 +1,34 @@
 -- How definitions see where a script stands.
-use Rattle.std.specs.Prelude.{◌≡◌, ℕ, ◌+◌, ◌<◌, ◌∷◌, ◌++◌, length, take, drop}
+use Rattle.std.specs.Prelude.{◌≡◌, ℕ, Option, Some, None, ◌+◌, ◌<◌, [], ◌∷◌, ◌++◌, length, take, drop}
 use Rattle.vtep_base.specs.Reading.{Bytes}
-use Rattle.fabric_world.specs.World.{World}
-use Rattle.fabric_world.specs.Script.{Stage, Waiting, Going, Over, Stopped, Inspecting, play_one, play}
+use Rattle.fabric_world.specs.Script.{Stage, Waiting, Going, Over, Stopped, Inspecting, play_one, play, behind, Played, Reading, Short, Meaning, IsGoing}
 use Rattle.fabric_world.specs.Text.{cut, NoFeed}
 use Rattle.fabric_replay.specs.PlainWorld.{world_of}
-use Rattle.fabric_replay.specs.declared.script.Place.{Place}
-use Rattle.fabric_replay.specs.declared.script.Place.TheVariants as place
-use Rattle.fabric_replay.specs.declared.script.State.{State}
+use Rattle.fabric_replay.specs.declared.script.Stage as code
+use Rattle.fabric_replay.specs.declared.script.Stage.TheVariants as script
+use Rattle.fabric_replay.specs.declared.script.Halt.{Halt}
+use Rattle.fabric_replay.specs.declared.script.Halt.TheVariants as halt
 
-abbrev pub stage_by : ℕ → World → Place → Stage
-stage_by n w place.Waiting = Waiting n
-stage_by n w place.Going = Going n w
-stage_by n w place.Over = Over
-stage_by n w (place.Stopped why) = Stopped n why
-stage_by n w place.Inspecting = Inspecting n
+abbrev pub stage_of : code.Stage → Stage
+stage_of (script.Waiting n) = Waiting n
+stage_of (script.Going n w) = Going n (world_of w)
+stage_of script.Over = Over
+stage_of (script.Stopped n why) = Stopped n why
+stage_of (script.Inspecting n) = Inspecting n
 
-abbrev pub stage_of : State → Stage
-stage_of s = stage_by s.number (world_of s.world) s.place
+-- the number of the next line, or of the one that was refused
+abbrev pub number_of : Stage → ℕ
+number_of (Waiting n) = n
+number_of (Going n w) = n
+number_of Over = 0
+number_of (Stopped n why) = n
+number_of (Inspecting n) = n
+
+-- where a script stands behind a line: there, unless the line ends it
+abbrev pub after_line : Option Halt → ℕ → Stage → Stage
+after_line None n stage = stage
+after_line (Some halt.Over) n stage = Over
+after_line (Some (halt.Refused why)) n stage = Stopped n why
 
 -- a line was played, and what it writes stands behind what was written before
 pub record Plays (old : Stage) (line before : Bytes) (new : Stage) (after : Bytes) : Type 0 where
@@ -35,3 +46,21 @@ pub record Feeds (old : Stage) (old_front piece before : Bytes) (new : Stage) (n
   pub text : after ≡ before ++ (play old (cut old_front piece).0).text
   pub stage : new ≡ (play old (cut old_front piece).0).stage
   pub front : new_front ≡ (cut old_front piece).1
+
+-- a piece was taken: what it wrote, and what comes of the rest then
+pub record FeedsAs (old : Meaning) (piece before : Bytes) (new : Meaning) (after : Bytes) : Type 0 where
+  pub text : Bytes
+  pub wrote : after ≡ before ++ text
+  pub silent : (new Short []).text ≡ []
+  pub meaning : (how : Reading) (rest : Bytes) → old how (piece ++ rest) ≡ behind text (new how rest)
+
+-- the reading ended, and nothing goes on
+pub record ClosesAs (p : Played) (before : Bytes) (stage : Stage) (after : Bytes) : Type 0 where
+  pub text : after ≡ before ++ p.text
+  pub stage_so : stage ≡ p.stage
+  pub over : IsGoing p.stage → ⊥
+
+-- what comes of no text at all is nothing, and it goes on
+pub record IsUnread (meaning : Meaning) : Type 0 where
+  pub going : IsGoing (meaning Short []).stage
+  pub silent : (meaning Short []).text ≡ []

@@ -109,7 +109,9 @@ fn arity(kind: Kind) -> usize
 }
 
 fn word<'a>(words: &[Word<'a>], place: usize) -> Result<Word<'a>, Refusal>
-    ensures { MatchResult result (λ w. slice_get (map seen words.now) place ≡ Some (seen w)) (λ e. (slice_get (map seen words.now) place ≡ None) × (e ≡ record { column = 1; reason = LineReason.Words })) }
+    ensures { MatchResult result (λ w. slice_get (map seen words.now) place ≡ Some (seen w))
+        (λ e. (slice_get (map seen words.now) place ≡ None)
+        × (e ≡ record { column = 1; reason = LineReason.Words })) }
 {
     match words.get(place) {
         Some(word) => Ok(*word),
@@ -218,7 +220,8 @@ fn last_end(words: &[Word<'_>]) -> usize
 /// No word is surplus, and none is missing.
 fn counted(kind: Kind, words: &[Word<'_>]) -> Result<(), Refusal>
     requires { AllFit words.now }
-    ensures { MatchResult result (λ _. counted kind (map seen words.now) ≡ Ok kind) (λ e. counted kind (map seen words.now) ≡ Err e) }
+    ensures { MatchResult result (λ _. counted kind (map seen words.now) ≡ Ok kind)
+        (λ e. counted kind (map seen words.now) ≡ Err e) }
 {
     let wanted = arity(kind) + 1;
     if words.len() > wanted {
@@ -375,7 +378,8 @@ pub(crate) fn read_line(
 
 /// The one word of a line of packets.
 fn only_word<'a>(words: &[Word<'a>]) -> Result<Word<'a>, Refusal>
-    ensures { MatchResult result (λ w. only_word (map seen words.now) ≡ Ok (seen w)) (λ e. only_word (map seen words.now) ≡ Err e) }
+    ensures { MatchResult result (λ w. only_word (map seen words.now) ≡ Ok (seen w))
+        (λ e. only_word (map seen words.now) ≡ Err e) }
 {
     match words {
         [] => Err(refusal(1, LineReason::Words)),

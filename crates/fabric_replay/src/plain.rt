@@ -8,6 +8,7 @@ ghost use Rattle.vxlan_frames.specs.Packets.{packet_of};
 ghost use Rattle.vtep_base.specs.Memory.{joined};
 ghost use Rattle.fabric_replay.specs.PlainWorld.{world_of, site_of, is_wanted, Answered, Runs};
 
+use crate::hexadecimal::{append_hex, append_word};
 use crate::sessions::{write_answer, write_messages};
 use ether_frames::{Frame, FrameFault, FrameKind, read, write};
 use fabric_world::{Fault, Line, Network};
@@ -68,7 +69,8 @@ impl Plain {
         name: Name,
         ip: Ipv4,
     ) -> Result<Option<Fault>, OutOfMemory>
-        ensures { IfOk result (λ fault. Runs (world_of self.old) (world_of self.new) [] [] (Line.Gateway name ip) fault) }
+        ensures { IfOk result (λ fault. Runs (world_of self.old) (world_of self.new) [] []
+            (Line.Gateway name ip) fault) }
     {
         if self.knows(&name) {
             return Ok(Some(Fault::Repeated(1)));
@@ -96,7 +98,8 @@ impl Plain {
         port: Name,
         out: &mut Bytes,
     ) -> Result<Option<Fault>, OutOfMemory>
-        ensures { IfOk result (λ fault. Runs (world_of self.old) (world_of self.new) out.old out.new (Line.Port gateway.now port) fault) }
+        ensures { IfOk result (λ fault. Runs (world_of self.old) (world_of self.new) out.old out.new
+            (Line.Port gateway.now port) fault) }
     {
         if !self.knows(gateway) {
             return Ok(Some(Fault::Unknown(1)));
@@ -123,7 +126,8 @@ impl Plain {
         port: Name,
         out: &mut Bytes,
     ) -> Result<Option<Fault>, OutOfMemory>
-        ensures { IfOk result (λ fault. Runs (world_of self.old) (world_of self.new) out.old out.new (Line.Unport gateway.now port) fault) }
+        ensures { IfOk result (λ fault. Runs (world_of self.old) (world_of self.new) out.old out.new
+            (Line.Unport gateway.now port) fault) }
     {
         if !self.knows(gateway) {
             return Ok(Some(Fault::Unknown(1)));
@@ -171,7 +175,8 @@ impl Plain {
     }
 
     fn add_switch(&mut self, name: Name, network: Network) -> Result<Option<Fault>, OutOfMemory>
-        ensures { IfOk result (λ fault. Runs (world_of self.old) (world_of self.new) [] [] (Line.Switch name network) fault) }
+        ensures { IfOk result (λ fault. Runs (world_of self.old) (world_of self.new) [] []
+            (Line.Switch name network) fault) }
     {
         if self.has_switch(&name) {
             return Ok(Some(Fault::Repeated(1)));
@@ -190,7 +195,8 @@ impl Plain {
     }
 
     fn bind(&mut self, switch: Name, binding: Binding) -> Result<Option<Fault>, OutOfMemory>
-        ensures { IfOk result (λ fault. Runs (world_of self.old) (world_of self.new) [] [] (Line.Bind switch binding) fault) }
+        ensures { IfOk result (λ fault. Runs (world_of self.old) (world_of self.new) [] []
+            (Line.Bind switch binding) fault) }
     {
         if !self.has_switch(&switch) {
             return Ok(Some(Fault::Unknown(1)));
@@ -213,7 +219,8 @@ impl Plain {
 
     /// The bindings of the intent on ports that this gateway has.
     fn wanted(&self, alloc: Global, gateway: &Name) -> Result<Vec<(Binding, Name)>, OutOfMemory>
-        ensures { IfOk result (λ found. found.items ≡ wanted (world_of self.now).intent gateway.now (site_of self.now)) }
+        ensures { IfOk result (λ found. found.items
+            ≡ wanted (world_of self.now).intent gateway.now (site_of self.now)) }
     {
         let mut found = Vec::new(alloc);
         'bindings: for (binding, switch) in self.bindings.iter() {
@@ -225,7 +232,8 @@ impl Plain {
     }
 
     fn settle(&mut self, alloc: Global, out: &mut Bytes) -> Result<Option<Fault>, OutOfMemory>
-        ensures { IfOk result (λ fault. Runs (world_of self.old) (world_of self.new) out.old out.new Line.Settle fault) }
+        ensures { IfOk result (λ fault. Runs (world_of self.old) (world_of self.new) out.old out.new
+            Line.Settle fault) }
     {
         if let Some(name) = self.name {
             self.installed = self.wanted(alloc, &name)?;
@@ -236,7 +244,8 @@ impl Plain {
 
     /// The switch of the installed binding of a VLAN of a port.
     fn switch_at(&self, port: &Name, vlan: Vlan) -> Option<Name>
-        ensures { result ≡ option_map (λ e. e.1) (find (is_at_place port.now vlan) self.now.installed.items) }
+        ensures { result ≡ option_map (λ e. e.1)
+            (find (is_at_place port.now vlan) self.now.installed.items) }
     {
         'installed: for entry in &self.installed {
             if is_at_place(entry, port, vlan) {
@@ -256,11 +265,15 @@ impl Plain {
         frame: &Frame<'_>,
         out: &mut Bytes,
     ) -> Result<(), OutOfMemory>
-        ensures { OnOk result (out.new ≡ out.old ++ outputs_text (map (leaves gateway.now frame.now.inner) (filter (is_other_member switch.now port.now frame.now.vlan) self.now.installed.items))) }
+        ensures { OnOk result (out.new ≡ out.old
+            ++ outputs_text (map (leaves gateway.now frame.now.inner)
+            (filter (is_other_member switch.now port.now frame.now.vlan)
+            self.now.installed.items))) }
     {
+        let mut bytes = Bytes::new(alloc);
         'installed: for entry in &self.installed {
             if is_other_member(entry, switch, port, frame.vlan) {
-                write_frame(alloc, gateway, entry, &frame.inner, out)?;
+                write_frame(alloc, gateway, entry, &frame.inner, &mut bytes, out)?;
             }
         }
         Ok(())
@@ -275,7 +288,10 @@ impl Plain {
         frame: &Frame<'_>,
         out: &mut Bytes,
     ) -> Result<(), OutOfMemory>
-        ensures { OnOk result (out.new ≡ out.old ++ outputs_text (flooded gateway.now (site_of self.now) port.now frame.now.vlan frame.now.inner (find (is_at_place port.now frame.now.vlan) self.now.installed.items))) }
+        ensures { OnOk result (out.new ≡ out.old
+            ++ outputs_text (flooded gateway.now (site_of self.now) port.now frame.now.vlan
+            frame.now.inner (find (is_at_place port.now frame.now.vlan)
+            self.now.installed.items))) }
     {
         let Some(switch) = self.switch_at(port, frame.vlan) else {
             return out.append_all(&[b"drop ", gateway.as_slice(), b" unbound\n"]);
@@ -294,7 +310,8 @@ impl Plain {
         bytes: &[u8],
         out: &mut Bytes,
     ) -> Result<Option<Fault>, OutOfMemory>
-        ensures { IfOk result (λ fault. Runs (world_of self.now) (world_of self.now) out.old out.new (Line.Frame gateway.now port.now bytes.now) fault) }
+        ensures { IfOk result (λ fault. Runs (world_of self.now) (world_of self.now) out.old out.new
+            (Line.Frame gateway.now port.now bytes.now) fault) }
     {
         if !self.knows(gateway) {
             return Ok(Some(Fault::Unknown(1)));
@@ -321,7 +338,8 @@ impl Plain {
 
     /// The bound switch that has this VNI.
     fn switch_of(&self, vni: Vni) -> Option<Name>
-        ensures { result ≡ option_map (λ e. e.1) (find (has_network (world_of self.now).intent vni) self.now.installed.items) }
+        ensures { result ≡ option_map (λ e. e.1)
+            (find (has_network (world_of self.now).intent vni) self.now.installed.items) }
     {
         'installed: for entry in &self.installed {
             if self.has_network(entry, vni) {
@@ -340,11 +358,14 @@ impl Plain {
         inner: &Inner<'_>,
         out: &mut Bytes,
     ) -> Result<(), OutOfMemory>
-        ensures { OnOk result (out.new ≡ out.old ++ outputs_text (map (leaves gateway.now inner.now) (filter (is_member switch.now) self.now.installed.items))) }
+        ensures { OnOk result (out.new ≡ out.old
+            ++ outputs_text (map (leaves gateway.now inner.now)
+            (filter (is_member switch.now) self.now.installed.items))) }
     {
+        let mut bytes = Bytes::new(alloc);
         'installed: for entry in &self.installed {
             if is_member(entry, switch) {
-                write_frame(alloc, gateway, entry, inner, out)?;
+                write_frame(alloc, gateway, entry, inner, &mut bytes, out)?;
             }
         }
         Ok(())
@@ -359,7 +380,9 @@ impl Plain {
         inner: &Inner<'_>,
         out: &mut Bytes,
     ) -> Result<(), OutOfMemory>
-        ensures { OnOk result (out.new ≡ out.old ++ outputs_text (arrived gateway.now (site_of self.now) inner.now (find (has_network (world_of self.now).intent vni) self.now.installed.items))) }
+        ensures { OnOk result (out.new ≡ out.old
+            ++ outputs_text (arrived gateway.now (site_of self.now) inner.now
+            (find (has_network (world_of self.now).intent vni) self.now.installed.items))) }
     {
         let Some(switch) = self.switch_of(vni) else {
             return out.append_all(&[b"drop ", gateway.as_slice(), b" vni\n"]);
@@ -378,7 +401,9 @@ impl Plain {
         packet: &Packet<'_>,
         out: &mut Bytes,
     ) -> Result<(), OutOfMemory>
-        ensures { OnOk result (out.new ≡ out.old ++ outputs_text (taken_out gateway.now (world_of self.now).intent (site_of self.now) (Ok (packet.now.src, packet.now.dst, packet.now.vni, packet.now.inner)))) }
+        ensures { OnOk result (out.new ≡ out.old
+            ++ outputs_text (taken_out gateway.now (world_of self.now).intent (site_of self.now)
+            (Ok (packet.now.src, packet.now.dst, packet.now.vni, packet.now.inner)))) }
     {
         if packet.dst != self.ip {
             return out.append_all(&[b"drop ", gateway.as_slice(), b" address\n"]);
@@ -393,7 +418,8 @@ impl Plain {
         bytes: &[u8],
         out: &mut Bytes,
     ) -> Result<Option<Fault>, OutOfMemory>
-        ensures { IfOk result (λ fault. Runs (world_of self.now) (world_of self.now) out.old out.new (Line.Underlay gateway.now bytes.now) fault) }
+        ensures { IfOk result (λ fault. Runs (world_of self.now) (world_of self.now) out.old out.new
+            (Line.Underlay gateway.now bytes.now) fault) }
     {
         if !self.knows(gateway) {
             return Ok(Some(Fault::Unknown(1)));
@@ -435,7 +461,8 @@ impl Plain {
         piece: Bytes,
         out: &mut Bytes,
     ) -> Result<Option<Fault>, OutOfMemory>
-        ensures { IfOk result (λ fault. Runs (world_of self.old) (world_of self.new) out.old out.new (Line.Rpc gateway.now session piece) fault) }
+        ensures { IfOk result (λ fault. Runs (world_of self.old) (world_of self.new) out.old out.new
+            (Line.Rpc gateway.now session piece) fault) }
     {
         if !self.answers(gateway) {
             return Ok(Some(Fault::Unknown(1)));
@@ -447,7 +474,8 @@ impl Plain {
 
     /// Ends a session.
     fn hangup(&mut self, gateway: &Name, session: u32) -> Result<Option<Fault>, OutOfMemory>
-        ensures { IfOk result (λ fault. Runs (world_of self.old) (world_of self.new) [] [] (Line.Hangup gateway.now session) fault) }
+        ensures { IfOk result (λ fault. Runs (world_of self.old) (world_of self.new) [] []
+            (Line.Hangup gateway.now session) fault) }
     {
         if !self.answers(gateway) {
             return Ok(Some(Fault::Unknown(1)));
@@ -463,7 +491,8 @@ impl Plain {
         line: Line,
         out: &mut Bytes,
     ) -> Result<Option<Fault>, OutOfMemory>
-        ensures { IfOk result (λ fault. Runs (world_of self.old) (world_of self.new) out.old out.new line fault) }
+        ensures { IfOk result (λ fault. Runs (world_of self.old) (world_of self.new) out.old out.new
+            line fault) }
     {
         match line {
             Line::Gateway { name, ip } => self.add_gateway(alloc, name, ip),
@@ -570,39 +599,30 @@ fn to_itself(inner: &Inner<'_>) -> bool
     destination == source
 }
 
-/// Writes that a frame leaves at a binding.
+/// Writes that a frame leaves at a binding. `bytes` is room for the frame, which a flood makes once.
 fn write_frame(
     alloc: Global,
     gateway: &Name,
     entry: &(Binding, Name),
     inner: &Inner<'_>,
+    bytes: &mut Bytes,
     out: &mut Bytes,
 ) -> Result<(), OutOfMemory>
-    ensures { OnOk result (out.new ≡ out.old ++ output_text (leaves gateway.now inner.now entry.now)) }
+    ensures { OnOk result (out.new ≡ out.old
+        ++ output_text (leaves gateway.now inner.now entry.now)) }
 {
-    let mut bytes = Bytes::new(alloc);
-    write(entry.0.vlan, inner, &mut bytes)?;
-    let text = hex_word(alloc, bytes.as_slice())?;
+    bytes.clear();
+    write(entry.0.vlan, inner, bytes)?;
     out.append_all(&[
         b"out ",
         gateway.as_slice(),
         b" ",
         entry.0.port.as_slice(),
         b" ",
-        text.as_slice(),
-        b"\n",
-    ])
-}
-
-/// Bytes as a hexadecimal word; no bytes are `-`.
-fn hex_word(alloc: Global, bytes: &[u8]) -> Result<Bytes, OutOfMemory>
-    ensures { IfOk result (λ word. word ≡ hex_word bytes.now) }
-{
-    if bytes.is_empty() {
-        return Bytes::from_slice(alloc, b"-");
-    }
-    let text = hex::encode(alloc, bytes)?;
-    Bytes::from_slice(alloc, text.as_bytes())
+    ])?;
+    append_word(alloc, bytes.as_slice(), out)?;
+    out.append(b"\n")?;
+    Ok(())
 }
 
 fn frame_kind_text(kind: &FrameKind) -> &[u8]
@@ -633,7 +653,8 @@ fn write_fault(gateway: &Name, fault: FrameFault, out: &mut Bytes) -> Result<(),
 
 /// A packet, by the first fault alone.
 fn decoded(bytes: &[u8]) -> Result<Packet<'_>, PacketFault>
-    ensures { MatchResult result (λ p. packet_of bytes.now ≡ Ok (p.src, p.dst, p.vni, p.inner)) (λ e. packet_of bytes.now ≡ Err e) }
+    ensures { MatchResult result (λ p. packet_of bytes.now ≡ Ok (p.src, p.dst, p.vni, p.inner))
+        (λ e. packet_of bytes.now ≡ Err e) }
 {
     decode(bytes)
 }
@@ -690,27 +711,24 @@ pub(crate) fn write_packet(alloc: Global, bytes: &[u8], out: &mut Bytes) -> Resu
 
 /// Shows what a packet says.
 fn write_said(alloc: Global, packet: &Packet<'_>, out: &mut Bytes) -> Result<(), OutOfMemory>
-    ensures { OnOk result (out.new ≡ out.old ++ joined (shown_packet (Ok (packet.now.src, packet.now.dst, packet.now.vni, packet.now.inner)))) }
+    ensures { OnOk result (out.new ≡ out.old
+        ++ joined (shown_packet (Ok (
+          packet.now.src,
+          packet.now.dst,
+          packet.now.vni,
+          packet.now.inner,
+        )))) }
 {
-    let mut src = Bytes::new(alloc);
-    packet.src.print(&mut src)?;
-    let mut dst = Bytes::new(alloc);
-    packet.dst.print(&mut dst)?;
+    out.append(b"packet ")?;
+    packet.src.print(out)?;
+    out.append(b" ")?;
+    packet.dst.print(out)?;
     let mut vni = Buffer::new();
-    let mut inner = Bytes::new(alloc);
-    inner.append_all(&[packet.inner.addresses(), packet.inner.rest()])?;
-    let text = hex_word(alloc, inner.as_slice())?;
-    out.append_all(&[
-        b"packet ",
-        src.as_slice(),
-        b" ",
-        dst.as_slice(),
-        b" ",
-        vni.format(packet.vni.number()).as_bytes(),
-        b" ",
-        text.as_slice(),
-        b"\n",
-    ])
+    out.append_all(&[b" ", vni.format(packet.vni.number()).as_bytes(), b" "])?;
+    append_hex(alloc, packet.inner.addresses(), out)?;
+    append_hex(alloc, packet.inner.rest(), out)?;
+    out.append(b"\n")?;
+    Ok(())
 }
 
 /// Writes why bytes are no packet.

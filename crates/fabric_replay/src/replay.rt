@@ -4,12 +4,12 @@ ghost use Rattle.std.specs.Prelude.{◌≡◌, ◌<◌, ◌≤◌, ◌+◌, ◌+
 ghost use Rattle.std.specs.String.{string_bytes};
 ghost use Rattle.vtep_base.specs.Outside.{SourceState, SinkState, Rose};
 ghost use Rattle.fabric_world.specs.Delivery.{DeliversInstalled};
-ghost use Rattle.fabric_world.specs.Text.{cut};
-ghost use Rattle.fabric_world.specs.Script.{Stage, Stopped, play, closing, Short, Ended, Full, form_of, usage_line, reason_text, refusal_text, Ran, Completes};
-ghost use Rattle.fabric_replay.specs.Stages.{stage_of};
-ghost use Rattle.fabric_replay.specs.Outcomes.{PutsAll, Wrote, Continues, status_at, WroteUsage};
+ghost use Rattle.fabric_world.specs.Script.{Stopped, Short, Ended, Full, form_of, usage_line, reason_text, refusal_text, Replays, AnswersForm, Ran, Completes};
+ghost use Rattle.fabric_replay.specs.Stages.{stage_of, IsUnread};
+ghost use Rattle.fabric_replay.specs.Outcomes.{PutsAll, Wrote, Continues, PlaysPiece, status_at, WroteUsage};
 
-use crate::script::{Place, Script, State};
+use crate::reader::Reader;
+use crate::script::{Script, Stage};
 use fabric_world::{Form, Refusal};
 use itoa::Buffer;
 use std::alloc::Global;
@@ -82,98 +82,108 @@ fn write_refusal(number: u64, refusal: &Refusal, out: &mut Bytes) -> Result<(), 
 }
 
 /// Appends the line of the refusal where the script was refused.
-fn show(state: &State, out: &mut Bytes) -> Result<(), OutOfMemory>
-    ensures { OnOk result (out.new ≡ out.old ++ refusal_text (stage_of state.now)) }
+fn show(stage: &Stage, out: &mut Bytes) -> Result<(), OutOfMemory>
+    ensures { OnOk result (out.new ≡ out.old ++ refusal_text (stage_of stage.now)) }
 {
-    match &state.place {
-        Place::Stopped(refusal) => write_refusal(state.number, refusal, out),
-        Place::Waiting | Place::Going | Place::Inspecting | Place::Over => Ok(()),
+    match stage {
+        Stage::Stopped(number, refusal) => write_refusal(*number, refusal, out),
+        Stage::Waiting(_) | Stage::Going(..) | Stage::Inspecting(_) | Stage::Over => Ok(()),
     }
 }
 
 /// How a run ends at a stage, where it does.
-fn status_at(state: &State) -> Option<Status>
-    ensures { result ≡ status_at (stage_of state.now) }
+fn status_at(stage: &Stage) -> Option<Status>
+    ensures { result ≡ status_at (stage_of stage.now) }
 {
-    match state.place {
-        Place::Waiting | Place::Going | Place::Inspecting => None,
-        Place::Over => Some(Status::Done),
-        Place::Stopped(_) => Some(Status::Refused),
+    match stage {
+        Stage::Waiting(_) | Stage::Going(..) | Stage::Inspecting(_) => None,
+        Stage::Over => Some(Status::Done),
+        Stage::Stopped(..) => Some(Status::Refused),
     }
 }
 
 /// Writes what was played and the refusal, where there is one, and says how the run ends, where it does.
-fn put_played<K: Sink>(state: &State, out: &mut Bytes, sink: &mut K) -> Option<Status>
-    ensures ends { Continues (record { text = out.old; stage = stage_of state.now })
+fn put_played<K: Sink>(stage: &Stage, out: &mut Bytes, sink: &mut K) -> Option<Status>
+    ensures ends { Continues (record { text = out.old; stage = stage_of stage.now })
         (record { written = K.written sink.old; faults = K.faults sink.old })
         (record { written = K.written sink.new; faults = K.faults sink.new }) result }
 {
-    let Ok(()) = show(state, out) else {
+    let Ok(()) = show(stage, out) else {
         return Some(Status::NoMemory);
     };
     match put_all(sink, out.as_slice()) {
-        Ok(()) => status_at(state),
+        Ok(()) => status_at(stage),
         Err(status) => Some(status),
     }
 }
 
-/// Runs the lines that a piece makes whole, and writes their output.
-fn play_piece<K: Sink>(
+/// Runs what a piece makes whole, and writes its output.
+fn play_piece<R: Reader, K: Sink>(
     alloc: Global,
-    script: &mut Script,
+    reader: &mut R,
     piece: &[u8],
     out: &mut Bytes,
     sink: &mut K,
 ) -> Option<Status>
-    requires room { script.old.state.number + length piece.now < 2 ^ 62 }
-    ensures ends { Continues (play (stage_of script.old.state) (cut script.old.front.items piece.now).0)
+    requires room { R.number reader.old + length piece.now < 2 ^ 62 }
+    ensures plays { PlaysPiece (R.meaning reader.old) piece.now (R.meaning reader.new)
         (record { written = K.written sink.old; faults = K.faults sink.old })
         (record { written = K.written sink.new; faults = K.faults sink.new }) result }
-    ensures stage { IfNone result (stage_of script.new.state ≡ (play (stage_of script.old.state) (cut script.old.front.items piece.now).0).stage) }
-    ensures front { IfNone result (script.new.front.items ≡ (cut script.old.front.items piece.now).1) }
-    ensures number { IfNone result (script.new.state.number ≤ script.old.state.number + length piece.now) }
+    ensures number { IfNone result (R.number reader.new ≤ R.number reader.old + length piece.now) }
 {
     out.clear();
-    let Ok(()) = script.feed(alloc, piece, out) else {
+    let Ok(()) = reader.feed(alloc, piece, out) else {
         return Some(Status::NoMemory);
     };
-    put_played(&script.state, out, sink)
+    put_played(reader.stage(), out, sink)
 }
 
-/// Ends a script whose source ended.
-fn finish<K: Sink>(alloc: Global, script: &mut Script, out: &mut Bytes, sink: &mut K) -> Status
-    requires room { script.old.state.number < 2 ^ 62 }
-    ensures { Wrote (closing Ended (stage_of script.old.state) script.old.front.items) Ended
+/// Ends a run whose source ended.
+fn finish<R: Reader, K: Sink>(
+    alloc: Global,
+    reader: &mut R,
+    out: &mut Bytes,
+    sink: &mut K,
+) -> Status
+    requires room { R.number reader.old < 2 ^ 62 }
+    ensures { Wrote (R.meaning reader.old Ended []) Ended
         (record { written = K.written sink.old; faults = K.faults sink.old })
         (record { written = K.written sink.new; faults = K.faults sink.new }) result }
 {
     out.clear();
-    let Ok(()) = script.end(alloc, out) else {
+    let Ok(()) = reader.end(alloc, out) else {
         return Status::NoMemory;
     };
-    match put_played(&script.state, out, sink) {
+    match put_played(reader.stage(), out, sink) {
         Some(status) => status,
         None => unreachable!(),
     }
 }
 
-/// Ends a script of which no more may be read.
-fn fill<K: Sink>(script: &mut Script, out: &mut Bytes, sink: &mut K) -> Status
-    ensures { Wrote (closing Full (stage_of script.old.state) script.old.front.items) Full
+/// Ends a run for which no more may be read.
+fn fill<R: Reader, K: Sink>(reader: &mut R, out: &mut Bytes, sink: &mut K) -> Status
+    ensures { Wrote (R.meaning reader.old Full []) Full
         (record { written = K.written sink.old; faults = K.faults sink.old })
         (record { written = K.written sink.new; faults = K.faults sink.new }) result }
 {
     out.clear();
-    script.fill();
-    match put_played(&script.state, out, sink) {
+    reader.fill();
+    match put_played(reader.stage(), out, sink) {
         Some(status) => status,
         None => unreachable!(),
     }
 }
 
-/// Runs the text that is read.
-fn run_text<S: Source, K: Sink>(alloc: Global, form: Form, source: &mut S, sink: &mut K) -> Status
-    ensures { Ran (Some form)
+/// Gives the text of the source to the reader, a piece at a time, and writes what comes of it.
+fn run_text<R: Reader, S: Source, K: Sink>(
+    alloc: Global,
+    reader: &mut R,
+    source: &mut S,
+    sink: &mut K,
+) -> Status
+    requires unread { IsUnread (R.meaning reader.old) }
+    requires number { R.number reader.old ≤ 1 }
+    ensures { Ran (Replays (R.meaning reader.old))
         (record { left = S.left source.old; taken = S.taken source.old; faults = S.faults source.old; ends = S.ends source.old })
         (record { left = S.left source.new; taken = S.taken source.new; faults = S.faults source.new; ends = S.ends source.new })
         (record { written = K.written sink.old; faults = K.faults sink.old })
@@ -183,23 +193,34 @@ fn run_text<S: Source, K: Sink>(alloc: Global, form: Form, source: &mut S, sink:
         return Status::NoMemory;
     };
     let mut out = Bytes::new(alloc);
-    let mut script = Script::new(alloc, form);
     let mut left = MOST;
     'piece: while left > 0 {
         let (room, _) = buffer.split_at_mut(left.min(PIECE));
         match source.take(room) {
             Took::Took(count) => {
                 let (piece, _) = room.split_at(count);
-                if let Some(status) = play_piece(alloc, &mut script, piece, &mut out, sink) {
+                if let Some(status) = play_piece(alloc, reader, piece, &mut out, sink) {
                     return status;
                 }
                 left -= count;
             }
-            Took::End => return finish(alloc, &mut script, &mut out, sink),
+            Took::End => return finish(alloc, reader, &mut out, sink),
             Took::Failed => return Status::ReadFault,
         }
     }
-    fill(&mut script, &mut out, sink)
+    fill(reader, &mut out, sink)
+}
+
+/// Runs the lines that are read.
+fn run_lines<S: Source, K: Sink>(alloc: Global, form: Form, source: &mut S, sink: &mut K) -> Status
+    ensures { Ran (AnswersForm (Some form))
+        (record { left = S.left source.old; taken = S.taken source.old; faults = S.faults source.old; ends = S.ends source.old })
+        (record { left = S.left source.new; taken = S.taken source.new; faults = S.faults source.new; ends = S.ends source.new })
+        (record { written = K.written sink.old; faults = K.faults sink.old })
+        (record { written = K.written sink.new; faults = K.faults sink.new }) result }
+{
+    let mut script = Script::new(alloc, form);
+    run_text(alloc, &mut script, source, sink)
 }
 
 /// What the words of the program ask for.
@@ -237,12 +258,13 @@ pub fn run<S: Source, K: Sink>(
     source: &mut S,
     sink: &mut K,
 ) -> Status
-    ensures ran { Ran (form_of (map string_bytes words.now.items))
+    ensures ran { Ran (AnswersForm (form_of (map string_bytes words.now.items)))
         (record { left = S.left source.old; taken = S.taken source.old; faults = S.faults source.old; ends = S.ends source.old })
         (record { left = S.left source.new; taken = S.taken source.new; faults = S.faults source.new; ends = S.ends source.new })
         (record { written = K.written sink.old; faults = K.faults sink.old })
         (record { written = K.written sink.new; faults = K.faults sink.new }) result }
-    ensures complete { (form : Form) → form_of (map string_bytes words.now.items) ≡ Some form → Completes form
+    ensures complete { (form : Form) → form_of (map string_bytes words.now.items) ≡ Some form
+        → Completes form
         (record { left = S.left source.old; taken = S.taken source.old; faults = S.faults source.old; ends = S.ends source.old })
         (record { left = S.left source.new; taken = S.taken source.new; faults = S.faults source.new; ends = S.ends source.new })
         (record { written = K.written sink.old; faults = K.faults sink.old })
@@ -250,7 +272,7 @@ pub fn run<S: Source, K: Sink>(
     ensures delivers { DeliversInstalled }
 {
     match form_of(words.as_slice()) {
-        Some(form) => run_text(alloc, form, source, sink),
+        Some(form) => run_lines(alloc, form, source, sink),
         None => usage(sink),
     }
 }

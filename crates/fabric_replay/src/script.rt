@@ -1,16 +1,17 @@
 //! A script, piece by piece.
 
-ghost use Rattle.std.specs.Prelude.{◌≡◌, ℕ, List, ◌+◌, ◌-◌, ◌^◌, ◌≤◌, ◌<◌, ◌++◌, ◌∷◌, [], length, take, drop, map, OnOk, MatchOption, IsTrue};
-ghost use Rattle.fabric_world.specs.Text as text;
+ghost use Rattle.std.specs.Prelude.{◌≡◌, ℕ, List, ◌+◌, ◌-◌, ◌^◌, ◌≤◌, ◌<◌, ◌++◌, ◌∷◌, [], length, take, drop, map, IfOk, OnOk, MatchOption, IsTrue};
 ghost use Rattle.fabric_world.specs.Text.{cut, without_return, NoFeed, is_skipped};
-ghost use Rattle.fabric_world.specs.Script.{Stage, Waiting, Going, Over, Stopped, Inspecting, first_of, play_one, play, refused_by, is_opening, run_instruction, play_rest, ended, full, closing, Ended, Full};
+ghost use Rattle.fabric_world.specs.Script as definition;
+ghost use Rattle.fabric_world.specs.Script.{Waiting, Going, Stopped, Inspecting, first_of, silent, refused, play_one, play, refused_by, is_opening, run_instruction, play_rest, ended, full, closing, read_behind, Ended, Full};
 ghost use Rattle.fabric_world.specs.Lines.{column_at};
 ghost use Rattle.fabric_replay.specs.Seen.{seen, AllFit};
 ghost use Rattle.fabric_replay.specs.PlainWorld.{world_of};
-ghost use Rattle.fabric_replay.specs.Stages.{stage_of, Plays, EndsLine, Feeds};
+ghost use Rattle.fabric_replay.specs.Stages.{stage_of, number_of, after_line, Plays, EndsLine, Feeds};
 
 use crate::lines::{LineFault, read_line, read_packet};
 use crate::plain::{Plain, write_packet};
+use crate::reader::Reader;
 use crate::words::{Word, bad_byte, is_skipped, words};
 use fabric_world::{Fault, Form, Instruction, Refusal};
 use memchr::memchr;
@@ -18,25 +19,39 @@ use std::alloc::Global;
 use vtep_base::{Bytes, LineReason, OutOfMemory};
 
 /// Where a script stands.
-#[derive(Clone, Copy, Debug)]
-pub(crate) enum Place {
-    /// No line had words.
-    Waiting,
-    Going,
+#[derive(Drop)]
+pub(crate) enum Stage {
+    /// No line had words. The number is that of the next line.
+    Waiting(u64),
+    /// The number of the next line, and the world in which it is run.
+    Going(u64, Plain),
     /// The end line was run.
     Over,
-    /// A line was refused.
-    Stopped(Refusal),
-    /// Each line is a packet.
-    Inspecting,
+    /// The line of this number was refused.
+    Stopped(u64, Refusal),
+    /// Each line is a packet. The number is that of the next line.
+    Inspecting(u64),
 }
 
-/// The state of a script, with the number of the line that is next, or that was refused.
-#[derive(Drop)]
-pub(crate) struct State {
-    pub place: Place,
-    pub number: u64,
-    world: Plain,
+/// How a line ends a script.
+#[derive(Clone, Copy, Debug)]
+enum Halt {
+    Over,
+    Refused(Refusal),
+}
+
+impl Halt {
+    /// Where the script stands behind the line of this number.
+    fn stage(self, number: u64) -> Stage
+        ensures stage { (other : definition.Stage) → after_line (Some self) number other
+            ≡ stage_of result }
+        ensures number { number_of (stage_of result) ≤ number }
+    {
+        match self {
+            Halt::Over => Stage::Over,
+            Halt::Refused(refusal) => Stage::Stopped(number, refusal),
+        }
+    }
 }
 
 /// The first line with words is `fabric 1`.
@@ -60,7 +75,8 @@ fn column_at(words: &[Word<'_>], place: usize) -> usize
 
 /// A reason of the fabric, at its word.
 fn refusal_by(words: &[Word<'_>], fault: Fault) -> Refusal
-    ensures { (n : ℕ) → refused_by n (map seen words.now) fault ≡ record { text = []; stage = Stopped n result } }
+    ensures { (n : ℕ) → refused_by n (map seen words.now) fault
+        ≡ record { text = []; stage = Stopped n result } }
 {
     let (place, reason) = match fault {
         Fault::Unknown(place) => (place, LineReason::Unknown),
@@ -74,132 +90,167 @@ fn refusal_by(words: &[Word<'_>], fault: Fault) -> Refusal
     }
 }
 
-impl State {
-    fn new(alloc: Global, form: Form) -> State
+/// A line of this number is refused at a column.
+fn refused(number: u64, column: usize, reason: LineReason) -> Stage
+    ensures stage { refused number column reason ≡ silent (stage_of result) }
+    ensures number { number_of (stage_of result) ≡ number }
+{
+    Stage::Stopped(number, Refusal { column, reason })
+}
+
+/// Looks for the opening of a script.
+fn open(alloc: Global, number: u64, line: &[u8]) -> Result<Stage, OutOfMemory>
+    requires room { number < 2 ^ 62 }
+    ensures stage { IfOk result (λ stage. play_one (Waiting number) line.now
+        ≡ silent (stage_of stage)) }
+    ensures number { IfOk result (λ stage. number_of (stage_of stage) ≤ number + 1) }
+{
+    let words = words(alloc, line)?;
+    if is_skipped(words.as_slice()) {
+        return Ok(Stage::Waiting(number + 1));
+    }
+    if let Some(column) = bad_byte(line) {
+        return Ok(refused(number, column, LineReason::Byte));
+    }
+    if is_opening(words.as_slice()) {
+        return Ok(Stage::Going(number + 1, Plain::new(alloc)));
+    }
+    Ok(refused(number, 1, LineReason::First))
+}
+
+/// Runs what a line says, and says how that ends the script, where it does.
+fn perform(
+    alloc: Global,
+    number: &mut u64,
+    world: &mut Plain,
+    words: &[Word<'_>],
+    instruction: Instruction,
+    out: &mut Bytes,
+) -> Result<Option<Halt>, OutOfMemory>
+    requires room { number.old < 2 ^ 62 }
+    ensures text { OnOk result (out.new ≡ out.old
+        ++ (run_instruction number.old (world_of world.old) (map seen words.now)
+        (Ok instruction)).text) }
+    ensures stage { IfOk result (λ halt. after_line halt number.new
+        (Going number.new (world_of world.new))
+        ≡ (run_instruction number.old (world_of world.old) (map seen words.now)
+        (Ok instruction)).stage) }
+    ensures number { OnOk result (number.new ≤ number.old + 1) }
+{
+    match instruction {
+        Instruction::End => Ok(Some(Halt::Over)),
+        Instruction::Do(line) => match world.run(alloc, line, out)? {
+            None => {
+                *number += 1;
+                Ok(None)
+            }
+            Some(fault) => Ok(Some(Halt::Refused(refusal_by(words, fault)))),
+        },
+    }
+}
+
+/// Runs a line behind the opening, and says how it ends the script, where it does.
+fn go(
+    alloc: Global,
+    number: &mut u64,
+    world: &mut Plain,
+    line: &[u8],
+    out: &mut Bytes,
+) -> Result<Option<Halt>, OutOfMemory>
+    requires room { number.old < 2 ^ 62 }
+    ensures plays { IfOk result (λ halt. Plays (Going number.old (world_of world.old)) line.now
+        out.old (after_line halt number.new (Going number.new (world_of world.new))) out.new) }
+    ensures number { OnOk result (number.new ≤ number.old + 1) }
+{
+    let words = words(alloc, line)?;
+    if is_skipped(words.as_slice()) {
+        *number += 1;
+        return Ok(None);
+    }
+    match read_line(alloc, line, words.as_slice()) {
+        Ok(instruction) => perform(alloc, number, world, words.as_slice(), instruction, out),
+        Err(LineFault::OutOfMemory) => Err(OutOfMemory),
+        Err(LineFault::Refused(refusal)) => Ok(Some(Halt::Refused(refusal))),
+    }
+}
+
+/// Shows the packet of a line, or says why the line is refused.
+fn inspect(
+    alloc: Global,
+    number: &mut u64,
+    line: &[u8],
+    out: &mut Bytes,
+) -> Result<Option<Halt>, OutOfMemory>
+    requires room { number.old < 2 ^ 62 }
+    ensures plays { IfOk result (λ halt. Plays (Inspecting number.old) line.now out.old
+        (after_line halt number.new (Inspecting number.new)) out.new) }
+    ensures number { OnOk result (number.new ≤ number.old + 1) }
+{
+    let words = words(alloc, line)?;
+    if is_skipped(words.as_slice()) {
+        *number += 1;
+        return Ok(None);
+    }
+    match read_packet(alloc, line, words.as_slice()) {
+        Ok(bytes) => {
+            write_packet(alloc, bytes.as_slice(), out)?;
+            *number += 1;
+            Ok(None)
+        }
+        Err(LineFault::OutOfMemory) => Err(OutOfMemory),
+        Err(LineFault::Refused(refusal)) => Ok(Some(Halt::Refused(refusal))),
+    }
+}
+
+impl Stage {
+    /// Where a text of this form begins.
+    fn first(form: Form) -> Stage
         ensures stage { stage_of result ≡ first_of form }
-        ensures number { result.number ≡ 1 }
     {
-        let place = match form {
-            Form::Replay => Place::Waiting,
-            Form::Inspect => Place::Inspecting,
-        };
-        State {
-            place,
-            number: 1,
-            world: Plain::new(alloc),
+        match form {
+            Form::Replay => Stage::Waiting(1),
+            Form::Inspect => Stage::Inspecting(1),
         }
     }
 
-    /// Looks for the opening of the script.
-    fn open(&mut self, alloc: Global, line: &[u8]) -> Result<(), OutOfMemory>
-        requires room { self.old.number < 2 ^ 62 }
-        requires waiting { self.old.place ≡ Place.Waiting }
-        ensures plays { OnOk result (Plays (stage_of self.old) line.now [] (stage_of self.new) []) }
-        ensures number { OnOk result (self.new.number ≤ self.old.number + 1) }
+    /// Takes a line.
+    fn play(&mut self, alloc: Global, line: &[u8], out: &mut Bytes) -> Result<(), OutOfMemory>
+        requires room { number_of (stage_of self.old) < 2 ^ 62 }
+        ensures plays { OnOk result (Plays (stage_of self.old) line.now out.old (stage_of self.new)
+            out.new) }
+        ensures number { OnOk result
+            (number_of (stage_of self.new) ≤ number_of (stage_of self.old) + 1) }
     {
-        let words = words(alloc, line)?;
-        if is_skipped(words.as_slice()) {
-            self.number += 1;
-        } else if let Some(column) = bad_byte(line) {
-            self.refuse(column, LineReason::Byte);
-        } else if is_opening(words.as_slice()) {
-            self.place = Place::Going;
-            self.number += 1;
-            self.world = Plain::new(alloc);
-        } else {
-            self.refuse(1, LineReason::First);
+        match self {
+            Stage::Waiting(number) => {
+                let next = open(alloc, *number, line)?;
+                *self = next;
+            }
+            Stage::Going(number, world) => {
+                if let Some(halt) = go(alloc, number, world, line, out)? {
+                    *self = halt.stage(*number);
+                }
+            }
+            Stage::Inspecting(number) => {
+                if let Some(halt) = inspect(alloc, number, line, out)? {
+                    *self = halt.stage(*number);
+                }
+            }
+            Stage::Over | Stage::Stopped(..) => {}
         }
         Ok(())
-    }
-
-    /// Runs what a line says.
-    fn perform(
-        &mut self,
-        alloc: Global,
-        words: &[Word<'_>],
-        instruction: Instruction,
-        out: &mut Bytes,
-    ) -> Result<(), OutOfMemory>
-        requires room { self.old.number < 2 ^ 62 }
-        requires going { self.old.place ≡ Place.Going }
-        ensures text { OnOk result (out.new ≡ out.old ++ (run_instruction self.old.number (world_of self.old.world) (map seen words.now) (Ok instruction)).text) }
-        ensures stage { OnOk result (stage_of self.new ≡ (run_instruction self.old.number (world_of self.old.world) (map seen words.now) (Ok instruction)).stage) }
-        ensures number { OnOk result (self.new.number ≤ self.old.number + 1) }
-    {
-        match instruction {
-            Instruction::End => self.place = Place::Over,
-            Instruction::Do(line) => match self.world.run(alloc, line, out)? {
-                None => self.number += 1,
-                Some(fault) => self.place = Place::Stopped(refusal_by(words, fault)),
-            },
-        }
-        Ok(())
-    }
-
-    /// Runs a line behind the opening.
-    fn go(&mut self, alloc: Global, line: &[u8], out: &mut Bytes) -> Result<(), OutOfMemory>
-        requires room { self.old.number < 2 ^ 62 }
-        requires going { self.old.place ≡ Place.Going }
-        ensures plays { OnOk result (Plays (stage_of self.old) line.now out.old (stage_of self.new) out.new) }
-        ensures number { OnOk result (self.new.number ≤ self.old.number + 1) }
-    {
-        let words = words(alloc, line)?;
-        if is_skipped(words.as_slice()) {
-            self.number += 1;
-            return Ok(());
-        }
-        match read_line(alloc, line, words.as_slice()) {
-            Ok(instruction) => self.perform(alloc, words.as_slice(), instruction, out),
-            Err(LineFault::OutOfMemory) => Err(OutOfMemory),
-            Err(LineFault::Refused(refusal)) => {
-                self.place = Place::Stopped(refusal);
-                Ok(())
-            }
-        }
-    }
-
-    fn refuse(&mut self, column: usize, reason: LineReason)
-        ensures stage { stage_of self.new ≡ Stopped self.old.number (record { column = column; reason = reason }) }
-        ensures number { self.new.number ≡ self.old.number }
-    {
-        self.place = Place::Stopped(Refusal { column, reason });
-    }
-
-    /// Shows the packet of a line.
-    fn inspect(&mut self, alloc: Global, line: &[u8], out: &mut Bytes) -> Result<(), OutOfMemory>
-        requires room { self.old.number < 2 ^ 62 }
-        requires inspecting { self.old.place ≡ Place.Inspecting }
-        ensures plays { OnOk result (Plays (stage_of self.old) line.now out.old (stage_of self.new) out.new) }
-        ensures number { OnOk result (self.new.number ≤ self.old.number + 1) }
-    {
-        let words = words(alloc, line)?;
-        if is_skipped(words.as_slice()) {
-            self.number += 1;
-            return Ok(());
-        }
-        match read_packet(alloc, line, words.as_slice()) {
-            Ok(bytes) => {
-                write_packet(alloc, bytes.as_slice(), out)?;
-                self.number += 1;
-                Ok(())
-            }
-            Err(LineFault::OutOfMemory) => Err(OutOfMemory),
-            Err(LineFault::Refused(refusal)) => {
-                self.place = Place::Stopped(refusal);
-                Ok(())
-            }
-        }
     }
 
     /// The text ends: a script that is neither over nor refused is refused at the next line, and packets are over.
     fn end(&mut self)
-        ensures { (text : List ℕ) → ended (record { text = text; stage = stage_of self.old }) ≡ record { text = text; stage = stage_of self.new } }
+        ensures { (text : List ℕ) → ended (record { text = text; stage = stage_of self.old })
+            ≡ record { text = text; stage = stage_of self.new } }
     {
-        match self.place {
-            Place::Waiting => self.refuse(1, LineReason::First),
-            Place::Going => self.refuse(1, LineReason::End),
-            Place::Inspecting => self.place = Place::Over,
-            Place::Over | Place::Stopped(_) => {}
+        match self {
+            Stage::Waiting(number) => *self = refused(*number, 1, LineReason::First),
+            Stage::Going(number, _) => *self = refused(*number, 1, LineReason::End),
+            Stage::Inspecting(_) => *self = Stage::Over,
+            Stage::Over | Stage::Stopped(..) => {}
         }
     }
 
@@ -207,23 +258,11 @@ impl State {
     fn fill(&mut self)
         ensures { full (stage_of self.old) ≡ record { text = []; stage = stage_of self.new } }
     {
-        match self.place {
-            Place::Waiting | Place::Going | Place::Inspecting => self.refuse(1, LineReason::Long),
-            Place::Over | Place::Stopped(_) => {}
-        }
-    }
-
-    /// Takes a line.
-    fn play(&mut self, alloc: Global, line: &[u8], out: &mut Bytes) -> Result<(), OutOfMemory>
-        requires room { self.old.number < 2 ^ 62 }
-        ensures plays { OnOk result (Plays (stage_of self.old) line.now out.old (stage_of self.new) out.new) }
-        ensures number { OnOk result (self.new.number ≤ self.old.number + 1) }
-    {
-        match self.place {
-            Place::Waiting => self.open(alloc, line),
-            Place::Going => self.go(alloc, line, out),
-            Place::Inspecting => self.inspect(alloc, line, out),
-            Place::Over | Place::Stopped(_) => Ok(()),
+        match self {
+            Stage::Waiting(number) => *self = refused(*number, 1, LineReason::Long),
+            Stage::Going(number, _) => *self = refused(*number, 1, LineReason::Long),
+            Stage::Inspecting(number) => *self = refused(*number, 1, LineReason::Long),
+            Stage::Over | Stage::Stopped(..) => {}
         }
     }
 }
@@ -250,22 +289,21 @@ fn line_feed(text: &[u8]) -> Option<usize>
     memchr(b'\n', text)
 }
 
-/// A script of which pieces were taken: its state, and what stands behind the last line feed.
+/// Lines that come in pieces: where the script stands, and what stands behind the last line feed.
 #[derive(Drop)]
 pub(crate) struct Script {
-    pub state: State,
+    stage: Stage,
     front: Vec<u8>,
 }
 
 impl Script {
     /// A script of which nothing was taken.
     pub(crate) fn new(alloc: Global, form: Form) -> Script
-        ensures stage { stage_of result.state ≡ first_of form }
+        ensures stage { stage_of result.stage ≡ first_of form }
         ensures front { result.front.items ≡ [] }
-        ensures number { result.state.number ≡ 1 }
     {
         Script {
-            state: State::new(alloc, form),
+            stage: Stage::first(form),
             front: Vec::new(alloc),
         }
     }
@@ -277,31 +315,32 @@ impl Script {
         rest: &[u8],
         out: &mut Bytes,
     ) -> Result<(), OutOfMemory>
-        requires room { self.old.state.number < 2 ^ 62 }
-        ensures plays { OnOk result (Plays (stage_of self.old.state) (without_return (self.old.front.items ++ rest.now)) out.old (stage_of self.new.state) out.new) }
+        requires room { number_of (stage_of self.old.stage) < 2 ^ 62 }
+        ensures plays { OnOk result (Plays (stage_of self.old.stage)
+            (without_return (self.old.front.items ++ rest.now)) out.old (stage_of self.new.stage)
+            out.new) }
         ensures front { OnOk result (self.new.front.items ≡ []) }
-        ensures number { OnOk result (self.new.state.number ≤ self.old.state.number + 1) }
+        ensures number { OnOk result
+            (number_of (stage_of self.new.stage) ≤ number_of (stage_of self.old.stage) + 1) }
     {
         if self.front.is_empty() {
-            return self.state.play(alloc, without_return(rest), out);
+            return self.stage.play(alloc, without_return(rest), out);
         }
         self.front.extend_from_slice(rest)?;
-        self.state
+        self.stage
             .play(alloc, without_return(self.front.as_slice()), out)?;
         self.front.clear();
         Ok(())
     }
 
-    /// Takes a piece: runs each line that it makes whole, and appends what these write.
-    pub(crate) fn feed(
-        &mut self,
-        alloc: Global,
-        piece: &[u8],
-        out: &mut Bytes,
-    ) -> Result<(), OutOfMemory>
-        requires room { self.old.state.number + length piece.now < 2 ^ 62 }
-        ensures feeds { OnOk result (Feeds (stage_of self.old.state) self.old.front.items piece.now out.old (stage_of self.new.state) self.new.front.items out.new) }
-        ensures number { OnOk result (self.new.state.number ≤ self.old.state.number + length piece.now) }
+    /// Runs each line that the piece makes whole.
+    fn take(&mut self, alloc: Global, piece: &[u8], out: &mut Bytes) -> Result<(), OutOfMemory>
+        requires room { number_of (stage_of self.old.stage) + length piece.now < 2 ^ 62 }
+        ensures feeds { OnOk result (Feeds (stage_of self.old.stage) self.old.front.items piece.now
+            out.old (stage_of self.new.stage) self.new.front.items out.new) }
+        ensures number { OnOk result
+            (number_of (stage_of self.new.stage) ≤ number_of (stage_of self.old.stage)
+            + length piece.now) }
     {
         let mut rest = piece;
         'lines: while let Some(at) = line_feed(rest) {
@@ -316,31 +355,53 @@ impl Script {
 
     /// Takes the last line, which lacks its line feed.
     fn play_rest(&mut self, alloc: Global, out: &mut Bytes) -> Result<(), OutOfMemory>
-        requires room { self.old.state.number < 2 ^ 62 }
-        ensures text { OnOk result (out.new ≡ out.old ++ (play_rest (stage_of self.old.state) self.old.front.items).text) }
-        ensures stage { OnOk result (stage_of self.new.state ≡ (play_rest (stage_of self.old.state) self.old.front.items).stage) }
+        requires room { number_of (stage_of self.old.stage) < 2 ^ 62 }
+        ensures text { OnOk result (out.new ≡ out.old
+            ++ (play_rest (stage_of self.old.stage) self.old.front.items).text) }
+        ensures stage { OnOk result (stage_of self.new.stage
+            ≡ (play_rest (stage_of self.old.stage) self.old.front.items).stage) }
     {
         if self.front.is_empty() {
             return Ok(());
         }
-        self.state.play(alloc, self.front.as_slice(), out)
+        self.stage.play(alloc, self.front.as_slice(), out)
     }
 
     /// Ends the script where the source ended.
-    pub(crate) fn end(&mut self, alloc: Global, out: &mut Bytes) -> Result<(), OutOfMemory>
-        requires room { self.old.state.number < 2 ^ 62 }
-        ensures text { OnOk result (out.new ≡ out.old ++ (closing Ended (stage_of self.old.state) self.old.front.items).text) }
-        ensures stage { OnOk result (stage_of self.new.state ≡ (closing Ended (stage_of self.old.state) self.old.front.items).stage) }
+    fn close(&mut self, alloc: Global, out: &mut Bytes) -> Result<(), OutOfMemory>
+        requires room { number_of (stage_of self.old.stage) < 2 ^ 62 }
+        ensures text { OnOk result (out.new ≡ out.old
+            ++ (closing Ended (stage_of self.old.stage) self.old.front.items).text) }
+        ensures stage { OnOk result (stage_of self.new.stage
+            ≡ (closing Ended (stage_of self.old.stage) self.old.front.items).stage) }
     {
         self.play_rest(alloc, out)?;
-        self.state.end();
+        self.stage.end();
+        Ok(())
+    }
+}
+
+impl Reader for Script {
+    ghost meaning = { λ s. read_behind s.front.items (stage_of s.stage) };
+
+    ghost number = { λ s. number_of (stage_of s.stage) };
+
+    fn feed(&mut self, alloc: Global, piece: &[u8], out: &mut Bytes) -> Result<(), OutOfMemory> {
+        self.take(alloc, piece, out)?;
         Ok(())
     }
 
-    /// Ends the script where no more may be read.
-    pub(crate) fn fill(&mut self)
-        ensures { closing Full (stage_of self.old.state) self.old.front.items ≡ record { text = []; stage = stage_of self.new.state } }
-    {
-        self.state.fill();
+    #[tactic(auto, using(crate::proofs::Ends::ended_ends))]
+    fn end(&mut self, alloc: Global, out: &mut Bytes) -> Result<(), OutOfMemory> {
+        self.close(alloc, out)
+    }
+
+    #[tactic(auto, using(crate::proofs::Ends::full_ends))]
+    fn fill(&mut self) {
+        self.stage.fill();
+    }
+
+    fn stage(&self) -> &Stage {
+        &self.stage
     }
 }

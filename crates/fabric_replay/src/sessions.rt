@@ -43,7 +43,8 @@ fn write_failed(
     framing: &Framing,
     out: &mut Bytes,
 ) -> Result<(), OutOfMemory>
-    ensures { OnOk result (out.new ≡ out.old ++ output_text (Failed gateway.now session framing.now)) }
+    ensures { OnOk result (out.new ≡ out.old
+        ++ output_text (Failed gateway.now session framing.now)) }
 {
     let mut number = Buffer::new();
     let mut offset = Buffer::new();
@@ -66,7 +67,8 @@ pub(crate) fn write_messages(
     messages: &[Outgoing],
     out: &mut Bytes,
 ) -> Result<(), OutOfMemory>
-    ensures { OnOk result (out.new ≡ out.old ++ outputs_text (map (Message gateway.now) messages.now)) }
+    ensures { OnOk result (out.new ≡ out.old
+        ++ outputs_text (map (Message gateway.now) messages.now)) }
 {
     'messages: for message in messages {
         write_message(gateway, message, out)?;
@@ -81,7 +83,8 @@ pub(crate) fn write_answer(
     answer: &Answer,
     out: &mut Bytes,
 ) -> Result<(), OutOfMemory>
-    ensures { OnOk result (out.new ≡ out.old ++ outputs_text (answer_outputs gateway.now session answer.now)) }
+    ensures { OnOk result (out.new ≡ out.old
+        ++ outputs_text (answer_outputs gateway.now session answer.now)) }
 {
     write_messages(gateway, answer.sends.as_slice(), out)?;
     match &answer.failed {

@@ -5,7 +5,7 @@ use Rattle.vtep_base.specs.Reading.{Bytes}
 use Rattle.fabric_world.specs.Text.{cut, without_return, NoFeed}
 use Rattle.vtep_base.specs.Memory.{joined}
 use Rattle.fabric_world.specs.Pieces.{feed, feed_all, whole, CutsDoNotMatter}
-use Rattle.fabric_world.specs.Script.{Stage, Over, Stopped, Played, silent, behind, play_one, play, played}
+use Rattle.fabric_world.specs.Script.{Stage, Over, Stopped, Played, Reading, silent, behind, play_one, play, played, closing, read_behind}
 
 -- a line and its line feed
 pub cut-line : (line bs front : Bytes) → NoFeed line → cut front (line ++ 10 ∷ bs) ≡ (without_return (front ++ line) ∷ (cut [] bs).0, (cut [] bs).1)
@@ -54,6 +54,16 @@ play-stopped n why (l ∷ ls) = ap (behind []) (play-stopped n why ls)
 -- the whole lines of a text and a further piece
 pub played-append : (first : Stage) (a b : Bytes) → played first (a ++ b) ≡ behind (played first a).text (play (played first a).stage (cut (cut [] a).1 b).0)
 played-append first a b = ap (λ c. play first c.0) (cut-append a b []) ∙ play-append first (cut [] a).0 (cut (cut [] a).1 b).0
+
+-- what comes of a text and a further piece
+pub read-more : (front : Bytes) (stage : Stage) (how : Reading) (a b : Bytes)
+    → read_behind front stage how (a ++ b) ≡ behind (play stage (cut front a).0).text (read_behind (cut front a).1 (play stage (cut front a).0).stage how b)
+read-more front stage how a b =
+    let ls : List Bytes = (cut front a).0 in
+    let more : List Bytes × Bytes = cut (cut front a).1 b in
+    ap (λ (c : List Bytes × Bytes). behind (play stage c.0).text (closing how (play stage c.0).stage c.1)) (cut-append a b front)
+    ∙ ap (λ (p : Played). behind p.text (closing how p.stage more.1)) (play-append stage ls more.0)
+    ∙ sym (behind-behind (play stage ls).text (play (play stage ls).stage more.0).text (closing how (play (play stage ls).stage more.0).stage more.1))
 
 -- ---- pieces
 

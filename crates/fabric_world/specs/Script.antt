@@ -1,7 +1,7 @@
 -- A script: its lines one after another, what they write, and what a run may have read and written by its answer.
 use Rattle.std.specs.Prelude.{◌≡◌, ◌⊎◌, ℕ, ◌+◌, ◌^◌, ◌<◌, ◌≤◌, Bool, false, ◌&&◌, if◌then◌else◌, List, [], ◌∷◌, ◌++◌, length, take, Option, Some, None, codes, decimal, Result, Ok, Err}
 use Rattle.vtep_base.specs.Reading.{Bytes}
-use Rattle.vtep_base.specs.Outside.{Grows, Shrinks, IsSpent, Rose, SourceState, SinkState}
+use Rattle.vtep_base.specs.Outside.{Grows, Shrinks, IsSpent, Rose, counted, SourceState, SinkState}
 use Rattle.vtep_base.specs.Memory.{joined}
 use Rattle.vtep_base.specs.declared.answers.LineReason.{LineReason}
 use Rattle.vtep_base.specs.declared.answers.LineReason.TheVariants as reason
@@ -127,8 +127,16 @@ closing Short stage rest = silent stage
 closing Ended stage rest = ended (play_rest stage rest)
 closing Full stage rest = full stage
 
-abbrev pub read_as : Stage → Reading → Bytes → Played
-read_as first how text = behind (played first text).text (closing how (played first text).stage (cut [] text).1)
+-- what comes of a text, by how its reading ended
+abbrev pub Meaning : Type 0
+Meaning = Reading → Bytes → Played
+
+-- of the text behind some bytes that have no line feed, where a script stands at a stage
+abbrev pub read_behind : Bytes → Stage → Meaning
+read_behind front stage how text = behind (play stage (cut front text).0).text (closing how (play stage (cut front text).0).stage (cut front text).1)
+
+abbrev pub read_as : Stage → Meaning
+read_as first = read_behind [] first
 
 abbrev pub reason_text : LineReason → Bytes
 reason_text reason.Byte = codes "byte"
@@ -179,11 +187,20 @@ IsGoing _ = ⊥
 abbrev pub most_bytes : ℕ
 most_bytes = 2 ^ 28
 
--- the source ended in this run, or all that may be read was read
-abbrev pub IsReading : Type 0 → Bytes → Reading → Type 0
-IsReading has_ended text Short = Unit {0}
-IsReading has_ended text Ended = has_ended
-IsReading has_ended text Full = length text ≡ most_bytes
+-- how many bytes may be taken before those before them are run
+abbrev pub most_ahead : ℕ
+most_ahead = 2 ^ 12
+
+-- the source answered End once, and no byte is left where it tells them
+pub record HasEnded (before now : SourceState) : Type 0 where
+  pub ended : now.ends ≡ counted before.ends
+  pub spent : IsSpent now.left
+
+-- the source ended in this run, or it did not, and all that may be read was read
+abbrev pub IsReading : SourceState → SourceState → Bytes → Reading → Type 0
+IsReading before now text Short = now.ends ≡ before.ends
+IsReading before now text Ended = HasEnded before now
+IsReading before now text Full = (length text ≡ most_bytes) × (now.ends ≡ before.ends)
 
 pub record IsPrefix (front whole : Bytes) : Type 0 where
   pub rest : Bytes
@@ -198,11 +215,21 @@ Answers p how written status.WriteFault = IsPrefix written (shown p)
 Answers p how written status.NoMemory = IsPrefix written (shown p)
 Answers p how written _ = ⊥
 
+-- before the last bytes were taken, those before them were run, what these wrote was written, and the run was not at its end
+pub record InStep (meaning : Meaning) (text written : Bytes) : Type 0 where
+  pub earlier : Bytes
+  pub last : Bytes
+  pub taken : text ≡ earlier ++ last
+  pub few : length last ≤ most_ahead
+  pub going : IsGoing (meaning Short earlier).stage
+  pub output : IsPrefix (meaning Short earlier).text written
+
 -- a run took a text and wrote its output
-pub record Replays (first : Stage) (has_ended : Type 0) (text written : Bytes) (answer : Status) : Type 0 where
+pub record Replays (meaning : Meaning) (source source_after : SourceState) (text written : Bytes) (answer : Status) : Type 0 where
   pub how : Reading
-  pub read : IsReading has_ended text how
-  pub answers : Answers (read_as first how text) how written answer
+  pub read : IsReading source source_after text how
+  pub answers : Answers (meaning how text) how written answer
+  pub in_step : InStep meaning text written
   pub most : length text ≤ most_bytes
 
 -- ---- the words of the program
@@ -220,23 +247,18 @@ AnswersUsage written status.Usage = written ≡ usage_line
 AnswersUsage written status.WriteFault = IsPrefix written usage_line
 AnswersUsage written _ = ⊥
 
-abbrev pub AnswersForm : Option Form → Type 0 → Bytes → Bytes → Status → Type 0
-AnswersForm None has_ended text written answer = (text ≡ []) × AnswersUsage written answer
-AnswersForm (Some f) has_ended text written answer = Replays (first_of f) has_ended text written answer
+abbrev pub AnswersForm : Option Form → SourceState → SourceState → Bytes → Bytes → Status → Type 0
+AnswersForm None source source_after text written answer = (text ≡ []) × (source_after.ends ≡ source.ends) × AnswersUsage written answer
+AnswersForm (Some f) source source_after text written answer = Replays (read_as (first_of f)) source source_after text written answer
 
--- the source answered End, and no byte is left where it tells them
-pub record HasEnded (before now : SourceState) : Type 0 where
-  pub ended : Rose before.ends now.ends
-  pub spent : IsSpent now.left
-
--- what a run read and wrote, and how it answered
-pub record Ran (asked : Option Form) (source source_after : SourceState) (sink sink_after : SinkState) (answer : Status) : Type 0 where
+-- what a run read and wrote, and how it answered: the three meet a relation, and so does the source
+pub record Ran (meets : SourceState → SourceState → Bytes → Bytes → Status → Type 0) (source source_after : SourceState) (sink sink_after : SinkState) (answer : Status) : Type 0 where
   pub text : Bytes
   pub written : Bytes
   pub took : Grows source.taken text source_after.taken
   pub left : Shrinks source.left text source_after.left
   pub wrote : Grows sink.written written sink_after.written
-  pub answers : AnswersForm asked (HasEnded source source_after) text written answer
+  pub answers : meets source source_after text written answer
   pub read_fault : answer ≡ status.ReadFault → Rose source.faults source_after.faults
   pub write_fault : answer ≡ status.WriteFault → Rose sink.faults sink_after.faults
   pub source_faults : source.faults ≤ source_after.faults

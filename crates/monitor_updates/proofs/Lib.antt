@@ -4,5 +4,11 @@ pub mod Forms
 pub mod Tables
 pub mod Openings
 pub mod Spelled
-pub mod Plain
+pub mod NoFraction
+pub mod Members
+pub mod Known
+pub mod Among
+pub mod RowsBack
+pub mod Follow
+pub mod Read
 mod Worked

@@ -12,10 +12,10 @@ use Rattle.vtep_schema.specs.Tables.{same_table, table_cmp}
 use Rattle.vtep_schema.specs.Orders.{table_exact}
 use Rattle.vtep_rows.specs.Row.{Contents}
 use Rattle.vtep_rows.specs.Rows.{Rows, Key, row_at, ids_of}
-use Rattle.monitor_updates.specs.declared.requests.Asked.{Asked}
-use Rattle.monitor_updates.specs.Noted.{Update, Fresh, cut, asked_of, listed, view, initially, opening}
+use Rattle.monitor_updates.specs.declared.requests.MonitorRequest.{MonitorRequest}
+use Rattle.monitor_updates.specs.Noted.{Update, Insert, cut, asked_of, listed, view, initially, opening}
 use Rattle.monitor_updates.specs.Updates.{update_json, in_table, tables_json, updates_json}
-use Rattle.monitor_updates.specs.Told.{initial_member, there_member}
+use Rattle.monitor_updates.specs.OneRow.{initial_member, there_member}
 use Rattle.monitor_updates.proofs.Views.{get-view}
 
 in_one : (t : Table) (k : Key) (b : Bool) (o : Option Update) (us : List (Key × Update)) → same_table k.0 t ≡ b
@@ -46,35 +46,35 @@ in_listed g t (e ∷ es) = in_one t e.0 (same_table e.0.0 t) (g e.0) (listed g (
         ∙ ap (cons_option (option_map {U = Bytes × Data} (λ u. (id_text e.0.1, update_json u)) (g (t, e.0.1)))) rest
     by false is rest = rest
 
-pub in_opening : (request : List Asked) (r : Rows) (t : Table) → in_table t (opening request r) ≡ filter_map (initial_member t (asked_of request t) r) (ids_of t r)
+pub in_opening : (request : List MonitorRequest) (r : Rows) (t : Table) → in_table t (opening request r) ≡ filter_map (initial_member t (asked_of request t) r) (ids_of t r)
 in_opening request r t =
     in_listed (λ k. initially (asked_of request k.0) (maps.get (view request r) k)) t r.rows.list
     ∙ (λ i. filter_map (λ id. option_map (λ u. (id_text id, update_json u)) (initially (asked_of request t) (get-view request r (t, id) i))) (ids_of t r))
 
-pub opening_of : (request : List Asked) (r : Rows) → updates_json (opening request r) ≡ object (tables_json (λ t. filter_map (initial_member t (asked_of request t) r) (ids_of t r)))
+pub opening_of : (request : List MonitorRequest) (r : Rows) → updates_json (opening request r) ≡ object (tables_json (λ t. filter_map (initial_member t (asked_of request t) r) (ids_of t r)))
 opening_of request r = λ i. object (tables_json (λ t. in_opening request r t i))
 
 -- ---- tables of which the rows there are told, or not
 
-fresh_is : (t : Table) (a : Asked) (id : ℕ) (o : Option Contents) → option_map {U = Bytes × Data} (λ u. (id_text id, update_json u)) (option_map Fresh (option_map (cut a.columns) o)) ≡ option_map (λ row. (id_text id, update_json (Fresh (cut a.columns row)))) o
+fresh_is : (t : Table) (a : MonitorRequest) (id : ℕ) (o : Option Contents) → option_map {U = Bytes × Data} (λ u. (id_text id, update_json u)) (option_map Insert (option_map (cut a.columns) o)) ≡ option_map (λ row. (id_text id, update_json (Insert (cut a.columns row)))) o
 fresh_is t a id None = refl
 fresh_is t a id (Some row) = refl
 
-initial_is : (t : Table) (a : Asked) (r : Rows) (id : ℕ) → a.initial ≡ true → initial_member t (Some a) r id ≡ there_member t a r id
+initial_is : (t : Table) (a : MonitorRequest) (r : Rows) (id : ℕ) → a.initial ≡ true → initial_member t (Some a) r id ≡ there_member t a r id
 initial_is t a r id e = rw e (fresh_is t a id (row_at r (t, id)))
 
-pub told_there : (t : Table) (o : Option Asked) (a : Asked) (r : Rows) (ids : List ℕ) → Some a ≡ o → a.initial ≡ true → filter_map (there_member t a r) ids ≡ filter_map (initial_member t o r) ids
+pub told_there : (t : Table) (o : Option MonitorRequest) (a : MonitorRequest) (r : Rows) (ids : List ℕ) → Some a ≡ o → a.initial ≡ true → filter_map (there_member t a r) ids ≡ filter_map (initial_member t o r) ids
 told_there t o a r ids e initial = sym (λ i. filter_map (λ id. initial_is t a r id initial i) ids) ∙ ap (λ x. filter_map (initial_member t x r) ids) e
 
-no_initial : (t : Table) (a : Asked) (r : Rows) (id : ℕ) → a.initial ≡ false → initial_member t (Some a) r id ≡ None
+no_initial : (t : Table) (a : MonitorRequest) (r : Rows) (id : ℕ) → a.initial ≡ false → initial_member t (Some a) r id ≡ None
 no_initial t a r id e = rw e refl
 
 all_none : (f : ℕ → Option (Bytes × Data)) → ((id : ℕ) → f id ≡ None) → (ids : List ℕ) → filter_map f ids ≡ []
 all_none f none [] = refl
 all_none f none (id ∷ ids) = ap (λ m. cons_option m (filter_map f ids)) (none id) ∙ all_none f none ids
 
-pub told_not : (t : Table) (o : Option Asked) (a : Asked) (r : Rows) (ids : List ℕ) → Some a ≡ o → a.initial ≡ false → filter_map (initial_member t o r) ids ≡ []
+pub told_not : (t : Table) (o : Option MonitorRequest) (a : MonitorRequest) (r : Rows) (ids : List ℕ) → Some a ≡ o → a.initial ≡ false → filter_map (initial_member t o r) ids ≡ []
 told_not t o a r ids e initial = ap (λ x. filter_map (initial_member t x r) ids) (sym e) ∙ all_none (initial_member t (Some a) r) (λ id. no_initial t a r id initial) ids
 
-pub not_asked : (t : Table) (o : Option Asked) (r : Rows) (ids : List ℕ) → None ≡ o → filter_map (initial_member t o r) ids ≡ []
+pub not_asked : (t : Table) (o : Option MonitorRequest) (r : Rows) (ids : List ℕ) → None ≡ o → filter_map (initial_member t o r) ids ≡ []
 not_asked t o r ids e = ap (λ x. filter_map (initial_member t x r) ids) (sym e) ∙ all_none (initial_member t None r) (λ id. refl) ids

@@ -1,14 +1,14 @@
 -- The updates of a change, row by row and table by table.
-use Rattle.std.proofs.Common.{◌≡◌, Bool, true, false, cond, ◌||◌, List, [], ◌∷◌, length, Option, Some, None, is_some, option_map, refl, ap, ◌∙◌}
+use Rattle.std.proofs.Common.{◌≡◌, Bool, true, false, cond, List, [], ◌∷◌, length, Option, Some, None, option_map, refl, ap, ◌∙◌, arith}
 use Rattle.std.specs.Prelude.{option_and_then, filter_map, String}
-use Rattle.std.specs.List.{list_any, cons_option}
+use Rattle.std.specs.List.{cons_option}
 use Rattle.std.specs.Cmp.{Equal-is}
 use Rattle.std.specs.declared.alloc.Global.{Global}
-use Rattle.serde_json.specs.Data.{Data, object}
+use Rattle.serde_json.specs.Data.{Data, object, no_members}
 use Rattle.serde_json.specs.View.{members_view}
 use Rattle.serde_json.specs.declared.value.Value.{Value}
 use Rattle.vtep_base.specs.Reading.{Bytes}
-use Rattle.json_notation.specs.Json.{list, to_members}
+use Rattle.json_notation.specs.Json.{to_members}
 use Rattle.ovsdb_values.specs.Notation.{id_text}
 use Rattle.vtep_schema.specs.declared.Table.{Table}
 use Rattle.vtep_schema.specs.Tables.{same_table, table_cmp, table_name}
@@ -16,11 +16,11 @@ use Rattle.vtep_schema.specs.Orders.{table_exact}
 use Rattle.vtep_rows.specs.Rows.{Rows, Key, row_at}
 use Rattle.vtep_rows.specs.Changes.{keys_of_both, change_at, changes, differ}
 use Rattle.vtep_rows.specs.declared.differences.RowChange.{RowChange}
-use Rattle.monitor_updates.specs.declared.requests.Asked.{Asked}
+use Rattle.monitor_updates.specs.declared.requests.MonitorRequest.{MonitorRequest}
 use Rattle.monitor_updates.specs.Noted as noted
 use Rattle.monitor_updates.specs.Noted.{Update, asked_of}
-use Rattle.monitor_updates.specs.Updates.{update_json, in_table, table_member, tables_json, updates_json, params_json}
-use Rattle.monitor_updates.specs.Told.{told_by, told_member, told_row, noted_in, with_some}
+use Rattle.monitor_updates.specs.Updates.{update_json, in_table, table_member}
+use Rattle.monitor_updates.specs.OneRow.{told_by, told_member, told_row, noted_in, with_some}
 use Rattle.monitor_updates.proofs.Views.{noted_is, unchanged_told}
 
 -- ---- the updates are those of the change
@@ -33,7 +33,7 @@ along f g h same (x ∷ xs) = ap (λ o. cons_option o (filter_map f xs)) (same x
     by None = refl
     by (Some b) = refl
 
-told_at : (request : List Asked) (old new : Rows) (k : Key)
+told_at : (request : List MonitorRequest) (old new : Rows) (k : Key)
     → option_map (λ u. (k, u)) (noted.noted_at request (noted.view request old) (noted.view request new) k) ≡ option_and_then (told_row request) (change_at old new k)
 told_at request old new k = ap (option_map (λ u. (k, u))) (noted_is request old new k) ∙ by (differ (row_at old k) (row_at new k)) refl
   where
@@ -43,7 +43,7 @@ told_at request old new k = ap (option_map (λ u. (k, u))) (noted_is request old
     by true e = refl
     by false e = ap (option_map (λ u. (k, u))) (unchanged_told (asked_of request k.0) (row_at old k) (row_at new k) e)
 
-pub noted_from : (request : List Asked) (old new : Rows) → noted.noted request old new ≡ noted_in request (changes old new)
+pub noted_from : (request : List MonitorRequest) (old new : Rows) → noted.noted request old new ≡ noted_in request (changes old new)
 noted_from request old new = along _ (told_row request) (change_at old new) (told_at request old new) (keys_of_both old new)
 
 -- ---- table by table
@@ -58,7 +58,7 @@ in_told_by t c false None us e = refl
 in_told_by t c true (Some u) us e = rw e refl
 in_told_by t c false (Some u) us e = rw e refl
 
-pub in_told : (request : List Asked) (t : Table) (change : List RowChange) → in_table t (noted_in request change) ≡ filter_map (told_member t (asked_of request t)) change
+pub in_told : (request : List MonitorRequest) (t : Table) (change : List RowChange) → in_table t (noted_in request change) ≡ filter_map (told_member t (asked_of request t)) change
 in_told request t [] = refl
 in_told request t (c ∷ change) =
     in_told_by t c (same_table c.table t) (told_by (asked_of request c.table) c.old c.new) (noted_in request change) refl
@@ -71,11 +71,8 @@ in_told request t (c ∷ change) =
     by true e = ap (λ s. cons_option (option_map (λ u. (id_text c.id, update_json u)) (told_by (asked_of request s) c.old c.new)) (in_table t (noted_in request change))) (same_table_is c.table t e)
     by false e = refl
 
-pub tables_of : (request : List Asked) (change : List RowChange) → updates_json (noted_in request change) ≡ object (tables_json (λ t. filter_map (told_member t (asked_of request t)) change))
-tables_of request change = λ i. object (tables_json (λ t. in_told request t change i))
-
 -- a table of which nothing is asked has nothing to tell
-pub nothing_in : (t : Table) (o : Option Asked) (change : List RowChange) → None ≡ o → filter_map (told_member t o) change ≡ []
+pub nothing_in : (t : Table) (o : Option MonitorRequest) (change : List RowChange) → None ≡ o → filter_map (told_member t o) change ≡ []
 nothing_in t (Some a) change e = cc
 nothing_in t None [] e = refl
 nothing_in t None (c ∷ change) e = by (same_table c.table t) (nothing_in t None change e)
@@ -95,25 +92,10 @@ pub some_member : (t : Table) (es : List (String Global × Value)) → (length e
 some_member t [] some = absurd (some refl)
 some_member t (x ∷ es) some = refl
 
--- ---- whether there is anything to tell
+pub no_entries : (es : List (String Global × Value)) → length es ≡ 0 → members_view es ≡ no_members
+no_entries [] none = refl
+no_entries (x ∷ es) none = absurd (omega (arith, none))
 
-pub quiet : (id : Data) (request : List Asked) (change : List RowChange) → list_any (λ c. is_some (told_by (asked_of request c.table) c.old c.new)) change ≡ false → params_json id (noted_in request change) ≡ None
-quiet id request [] e = refl
-quiet id request (c ∷ change) e = by (told_by (asked_of request c.table) c.old c.new) e (quiet id request change)
-  where
-    by : (o : Option Update) → (is_some o || list_any (λ c. is_some (told_by (asked_of request c.table) c.old c.new)) change) ≡ false
-        → (list_any (λ c. is_some (told_by (asked_of request c.table) c.old c.new)) change ≡ false → params_json id (noted_in request change) ≡ None)
-        → params_json id (cons_option (option_map (λ u. ((c.table, c.id), u)) o) (noted_in request change)) ≡ None
-    by None e rest = rest e
-    by (Some u) e rest = cc
-
-pub loud : (id : Data) (request : List Asked) (change : List RowChange) → list_any (λ c. is_some (told_by (asked_of request c.table) c.old c.new)) change ≡ true
-    → params_json id (noted_in request change) ≡ Some (list (id ∷ updates_json (noted_in request change) ∷ []))
-loud id request [] e = cc
-loud id request (c ∷ change) e = by (told_by (asked_of request c.table) c.old c.new) e (loud id request change)
-  where
-    by : (o : Option Update) → (is_some o || list_any (λ c. is_some (told_by (asked_of request c.table) c.old c.new)) change) ≡ true
-        → (list_any (λ c. is_some (told_by (asked_of request c.table) c.old c.new)) change ≡ true → params_json id (noted_in request change) ≡ Some (list (id ∷ updates_json (noted_in request change) ∷ [])))
-        → params_json id (cons_option (option_map (λ u. ((c.table, c.id), u)) o) (noted_in request change)) ≡ Some (list (id ∷ updates_json (cons_option (option_map (λ u. ((c.table, c.id), u)) o) (noted_in request change)) ∷ []))
-    by None e rest = rest e
-    by (Some u) e rest = refl
+pub some_entries : (es : List (String Global × Value)) → (length es ≡ 0 → ⊥) → members_view es ≡ no_members → ⊥
+some_entries [] some e = some refl
+some_entries (x ∷ es) some e = cc

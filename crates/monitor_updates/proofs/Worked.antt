@@ -13,7 +13,7 @@ use Rattle.vtep_schema.specs.declared.Table.TheVariants.{LogicalSwitch}
 use Rattle.vtep_schema.specs.declared.Column.TheVariants.{LogicalName, LogicalDescription}
 use Rattle.vtep_rows.specs.Row.{default_row, with_value}
 use Rattle.vtep_rows.specs.Rows.{Rows, opening, inserted, replaced}
-use Rattle.monitor_updates.specs.declared.requests.Asked.{Asked}
+use Rattle.monitor_updates.specs.declared.requests.MonitorRequest.{MonitorRequest}
 use Rattle.monitor_updates.specs.declared.mirror.MirrorFault.TheVariants.{Shape, Contradicts}
 use Rattle.monitor_updates.specs.Requests.{request_of}
 use Rattle.monitor_updates.specs.Updates.{notice_json, opening_json}
@@ -21,7 +21,7 @@ use Rattle.monitor_updates.specs.Mirrored.{Mirrored, taken}
 
 -- ---- requests
 
-abbrev names_alone : List Asked
+abbrev names_alone : List MonitorRequest
 names_alone = record { table = LogicalSwitch; columns = LogicalName ∷ []; initial = true; insert = true; delete = true; modify = true } ∷ []
 
 one_column : option_map request_of (read (codes "{\"Logical_Switch\":[{\"columns\":[\"_uuid\",\"name\",\"name\"]}]}")) ≡ Some (Ok names_alone)
@@ -91,3 +91,9 @@ no_updates = refl
 empty_table : option_map (taken false nothing) (read (codes "{\"ACL\":{}}")) ≡ Some (Ok nothing)
 unfolding texts
 empty_table = refl
+
+-- one row, its identifier in upper and in lower case
+two_spellings : option_map (taken true nothing) (read (codes "{\"Logical_Switch\":{\"0A000001-0000-8000-8000-000000000003\":{\"new\":{\"description\":\"\",\"name\":\"red\",\"replication_mode\":[\"set\",[]],\"tunnel_key\":[\"set\",[]]}},\"0a000001-0000-8000-8000-000000000003\":{\"new\":{\"description\":\"\",\"name\":\"red\",\"replication_mode\":[\"set\",[]],\"tunnel_key\":[\"set\",[]]}}}}"))
+    ≡ Some (Err Shape)
+unfolding texts
+two_spellings = refl

@@ -2,5 +2,5 @@ pub mod Noted
 pub mod Updates
 pub mod Requests
 pub mod Seen
-pub mod Told
+pub mod OneRow
 pub mod Mirrored

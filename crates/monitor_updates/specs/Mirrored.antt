@@ -1,7 +1,10 @@
 -- What a mirror makes of table updates (RFC 7047, section 4.1.6).
-use Rattle.std.specs.Prelude.{◌≡◌, Bool, true, false, not, ◌&&◌, ◌||◌, if◌then◌else◌, List, [], ◌∷◌, ◌++◌, map, Option, Some, None, is_some, is_none, option_map, option_and_then, codes, Result, Ok, Err}
-use Rattle.std.specs.List.{list_all}
+use Rattle.std.specs.Prelude.{◌≡◌, ℕ, Bool, true, false, not, ◌&&◌, ◌||◌, if◌then◌else◌, List, [], ◌∷◌, ◌++◌, map, Option, Some, None, is_some, is_none, option_map, option_and_then, codes, Result, Ok, Err}
+use Rattle.std.specs.List.{list_all, list_any}
 use Rattle.std.specs.Char.{to_ascii_lowercase}
+use Rattle.std.specs.Ordering.{nat_cmp}
+use Rattle.std.specs.BTreeMap.{is_at}
+use Rattle.std.specs.BTreeSet.{insert_key}
 use Rattle.serde_json.specs.Data.{Data, Members, no_members, member}
 use Rattle.serde_json.specs.Find.{get, as_object}
 use Rattle.vtep_base.specs.Reading.{Bytes, same_bytes}
@@ -22,9 +25,9 @@ use Rattle.vtep_schema.specs.Tables.{column_rule, columns_of, column_named, tabl
 use Rattle.vtep_rows.specs.Row.{Contents, allowed, row_of}
 use Rattle.vtep_rows.specs.Rows.{Key, key_cmp}
 use Rattle.monitor_updates.specs.Noted.{cut, differing}
-use Rattle.monitor_updates.specs.Told.{is_any}
-use Rattle.monitor_updates.specs.declared.told.Told.{Told}
-use Rattle.monitor_updates.specs.declared.told.Told.TheVariants.{Fresh, Gone, Changed}
+use Rattle.monitor_updates.specs.OneRow.{is_any}
+use Rattle.monitor_updates.specs.declared.row_updates.RowUpdate.{RowUpdate}
+use Rattle.monitor_updates.specs.declared.row_updates.RowUpdate.TheVariants.{Insert, Delete, Modify}
 use Rattle.monitor_updates.specs.declared.mirror.MirrorFault.{MirrorFault}
 use Rattle.monitor_updates.specs.declared.mirror.MirrorFault.TheVariants as fault
 
@@ -78,39 +81,56 @@ told_some t d = option_and_then at_least_one (told_values t d)
 
 -- ---- row updates as they are told
 
-abbrev pub told_by : Table → Option Data → Option Data → Option Told
+abbrev pub told_by : Table → Option Data → Option Data → Option RowUpdate
 told_by t None None = None
-told_by t None (Some new) = option_map Fresh (told_whole t new)
-told_by t (Some old) None = option_map Gone (told_whole t old)
-told_by t (Some old) (Some new) = option_and_then (λ before. option_map (Changed before) (told_whole t new)) (told_some t old)
+told_by t None (Some new) = option_map Insert (told_whole t new)
+told_by t (Some old) None = option_map Delete (told_whole t old)
+told_by t (Some old) (Some new) = option_and_then (λ before. option_map (Modify before) (told_whole t new)) (told_some t old)
 
 -- no member but `old` and `new`
 abbrev pub only_told : Members → Bool
 only_told no_members = true
 only_told (member name d ms) = (same_bytes name (codes "old") || same_bytes name (codes "new")) && only_told ms
 
-abbrev pub told_in : Table → Data → Members → Option Told
+abbrev pub told_in : Table → Data → Members → Option RowUpdate
 told_in t d ms = if only_told ms then told_by t (get (codes "old") d) (get (codes "new") d) else None
 
-abbrev pub told_update : Table → Data → Option Told
+abbrev pub told_update : Table → Data → Option RowUpdate
 told_update t d = option_and_then (told_in t d) (as_object d)
 
-abbrev pub told_entry : Table → Bytes → Data → Option (Key × Told)
+abbrev pub told_entry : Table → Bytes → Data → Option (Key × RowUpdate)
 told_entry t name d = option_and_then (λ id. option_map (λ u. ((t, id), u)) (told_update t d)) (id_of name)
 
-abbrev pub rows_from : Table → List (Key × Told) → Members → Option (List (Key × Told))
+abbrev pub rows_from : Table → List (Key × RowUpdate) → Members → Option (List (Key × RowUpdate))
 rows_from t done no_members = Some done
 rows_from t done (member name d ms) = option_and_then (λ u. rows_from t (done ++ u ∷ []) ms) (told_entry t name d)
 
-abbrev pub told_table : List (Key × Told) → Bytes → Data → Option (List (Key × Told))
-told_table done name d = option_and_then (λ t. option_and_then (rows_from t done) (as_object d)) (table_named name)
+-- this identifier is among those that are seen
+abbrev pub is_seen : List ℕ → Option ℕ → Bool
+is_seen seen None = false
+is_seen seen (Some id) = list_any (is_at (nat_cmp id)) seen
 
-abbrev pub tables_from : List (Key × Told) → Members → Option (List (Key × Told))
+abbrev pub with_id : List ℕ → Option ℕ → List ℕ
+with_id seen None = seen
+with_id seen (Some id) = insert_key nat_cmp seen id
+
+-- none of the names spells an identifier that is seen before it; the letters of one have either case
+abbrev pub spells_each_once : List ℕ → Members → Bool
+spells_each_once seen no_members = true
+spells_each_once seen (member name d ms) = not (is_seen seen (id_of name)) && spells_each_once (with_id seen (id_of name)) ms
+
+abbrev pub each_once : Members → Option Members
+each_once ms = if spells_each_once [] ms then Some ms else None
+
+abbrev pub told_table : List (Key × RowUpdate) → Bytes → Data → Option (List (Key × RowUpdate))
+told_table done name d = option_and_then (λ t. option_and_then (rows_from t done) (option_and_then each_once (as_object d))) (table_named name)
+
+abbrev pub tables_from : List (Key × RowUpdate) → Members → Option (List (Key × RowUpdate))
 tables_from done no_members = Some done
 tables_from done (member name d ms) = option_and_then (λ us. tables_from us ms) (told_table done name d)
 
 -- table updates of the schema, in the order of their members
-abbrev pub told_of : Data → Option (List (Key × Told))
+abbrev pub told_of : Data → Option (List (Key × RowUpdate))
 told_of d = option_and_then (tables_from []) (as_object d)
 
 -- ---- what they do
@@ -126,24 +146,24 @@ abbrev pub has_all : Table → Contents → Contents → Bool
 has_all t old row = not (is_any (differing (cut (columns_of t) old) (cut (columns_of t) row)))
 
 -- a new row is not there; one that went or changed has the old values, and is in no answer to a request
-abbrev pub agrees : Bool → Table → Told → Option Contents → Bool
-agrees first t (Fresh new) there = is_none there
-agrees first t (Gone old) None = false
-agrees first t (Gone old) (Some row) = not first && has_all t old row
-agrees first t (Changed before new) None = false
-agrees first t (Changed before new) (Some row) = not first && has_values before row
+abbrev pub agrees : Bool → Table → RowUpdate → Option Contents → Bool
+agrees first t (Insert new) there = is_none there
+agrees first t (Delete old) None = false
+agrees first t (Delete old) (Some row) = not first && has_all t old row
+agrees first t (Modify before new) None = false
+agrees first t (Modify before new) (Some row) = not first && has_values before row
 
 -- the first row that contradicts what is there
-abbrev pub contradiction : Bool → Mirrored → List (Key × Told) → Option Key
+abbrev pub contradiction : Bool → Mirrored → List (Key × RowUpdate) → Option Key
 contradiction first m [] = None
 contradiction first m (u ∷ us) = if agrees first u.0.0 u.1 (maps.get m u.0) then contradiction first m us else Some u.0
 
-abbrev pub applied_one : Mirrored → Key → Told → Mirrored
-applied_one m k (Fresh new) = maps.insert m k new
-applied_one m k (Gone old) = maps.remove m k
-applied_one m k (Changed before new) = maps.insert m k new
+abbrev pub applied_one : Mirrored → Key → RowUpdate → Mirrored
+applied_one m k (Insert new) = maps.insert m k new
+applied_one m k (Delete old) = maps.remove m k
+applied_one m k (Modify before new) = maps.insert m k new
 
-abbrev pub applied : Mirrored → List (Key × Told) → Mirrored
+abbrev pub applied : Mirrored → List (Key × RowUpdate) → Mirrored
 applied m [] = m
 applied m (u ∷ us) = applied (applied_one m u.0 u.1) us
 
@@ -151,7 +171,7 @@ abbrev pub unless : Option Key → Mirrored → Result Mirrored MirrorFault
 unless None m = Ok m
 unless (Some k) m = Err (fault.Contradicts k.0 k.1)
 
-abbrev pub taken_by : Bool → Mirrored → Option (List (Key × Told)) → Result Mirrored MirrorFault
+abbrev pub taken_by : Bool → Mirrored → Option (List (Key × RowUpdate)) → Result Mirrored MirrorFault
 taken_by first m None = Err fault.Shape
 taken_by first m (Some us) = unless (contradiction first m us) (applied m us)
 

@@ -1,5 +1,5 @@
 -- The requests of a monitor, as they are written (RFC 7047, section 4.1.5).
-use Rattle.std.specs.Prelude.{◌≡◌, Bool, true, false, ◌&&◌, ◌||◌, if◌then◌else◌, List, [], ◌∷◌, ◌++◌, filter, Option, Some, None, is_some, option_and_then, codes, Result, Ok, Err}
+use Rattle.std.specs.Prelude.{◌≡◌, Bool, true, false, ◌&&◌, ◌||◌, if◌then◌else◌, List, [], ◌∷◌, ◌++◌, filter, Option, Some, None, is_some, option_map, option_and_then, codes, Result, Ok, Err}
 use Rattle.serde_json.specs.Data.{Data, Items, no_items, item, Members, no_members, member}
 use Rattle.serde_json.specs.Find.{get, as_array, as_object, as_str, as_bool}
 use Rattle.vtep_base.specs.Reading.{Bytes, same_bytes}
@@ -8,15 +8,19 @@ use Rattle.vtep_base.specs.declared.words.Word.TheVariants as word
 use Rattle.vtep_schema.specs.declared.Table.{Table}
 use Rattle.vtep_schema.specs.declared.Column.{Column}
 use Rattle.vtep_schema.specs.Tables.{columns_of, column_name, column_named, table_named}
-use Rattle.monitor_updates.specs.declared.requests.Asked.{Asked}
+use Rattle.monitor_updates.specs.declared.requests.MonitorRequest.{MonitorRequest}
 use Rattle.monitor_updates.specs.declared.requests.MonitorFault.{MonitorFault}
 use Rattle.monitor_updates.specs.declared.requests.MonitorFault.TheVariants as fault
 
-infixl 10 ◌>>?◌
+infixl 10 ◌>>?◌ ◌>>=◌
 -- goes on where there is no refusal
 abbrev pub ◌>>?◌ : {A B : Type 0} → Result A Word → (A → Result B Word) → Result B Word
 (Ok a) >>? f = f a
 (Err w) >>? f = Err w
+
+-- what a `do` of options goes on by
+abbrev pub ◌>>=◌ : {A B : Type 0} → Option A → (A → Option B) → Option B
+o >>= f = option_and_then f o
 
 abbrev pub or_refuse : {A : Type 0} → Word → Option A → Result A Word
 or_refuse w None = Err w
@@ -54,21 +58,22 @@ flag_of (Some d) = as_bool d
 abbrev pub flag : Bytes → Option Data → Option Bool
 flag name select = flag_of (option_and_then (get name) select)
 
-abbrev pub is_select : Option Data → Bool
-is_select None = true
-is_select (Some d) = is_some (as_object d)
+-- an object, where it is given
+abbrev pub select_of : Option Data → Option (Option Data)
+select_of None = Some None
+select_of (Some d) = option_map (λ _. Some d) (as_object d)
 
-abbrev pub flagged : Option Items → Option Data → Option Form
-flagged names select =
-    option_and_then (λ initial. option_and_then (λ insert. option_and_then (λ delete. option_and_then (λ modify.
-    Some (record { names = names; initial = initial; insert = insert; delete = delete; modify = modify }))
-    (flag (codes "modify") select)) (flag (codes "delete") select)) (flag (codes "insert") select)) (flag (codes "initial") select)
-
-abbrev pub selected : Option Items → Option Data → Option Form
-selected names select = if is_select select then flagged names select else None
-
+-- an object that may give the names of columns and the flags
 abbrev pub form_of : Data → Option Form
-form_of d = if is_some (as_object d) then option_and_then (λ names. selected names (get (codes "select") d)) (names_of (get (codes "columns") d)) else None
+form_of d = do
+  _ ← as_object d
+  names ← names_of (get (codes "columns") d)
+  select ← select_of (get (codes "select") d)
+  initial ← flag (codes "initial") select
+  insert ← flag (codes "insert") select
+  delete ← flag (codes "delete") select
+  modify ← flag (codes "modify") select
+  Some (record { names = names; initial = initial; insert = insert; delete = delete; modify = modify })
 
 abbrev pub all_forms : Items → Bool
 all_forms no_items = true
@@ -108,7 +113,7 @@ abbrev pub columns_asked : Table → Option Items → Result (List Column) Word
 columns_asked t None = Ok (columns_of t)
 columns_asked t (Some names) = if all_columns t names then Ok (filter (is_among names) (columns_of t)) else Err word.UnknownColumn
 
-abbrev pub asked : Bytes → Data → Result Asked Word
+abbrev pub asked : Bytes → Data → Result MonitorRequest Word
 asked name d =
     or_refuse word.UnknownTable (table_named name) >>? λ t.
     the_form d >>? λ f.
@@ -116,10 +121,10 @@ asked name d =
     Ok (record { table = t; columns = cs; initial = f.initial; insert = f.insert; delete = f.delete; modify = f.modify })
 
 -- each behind those that are read
-abbrev pub asked_from : List Asked → Members → Result (List Asked) Word
+abbrev pub asked_from : List MonitorRequest → Members → Result (List MonitorRequest) Word
 asked_from done no_members = Ok done
 asked_from done (member name d ms) = asked name d >>? λ a. asked_from (done ++ a ∷ []) ms
 
 -- what is asked of each table, in the order of the tables' names; the first refusal
-abbrev pub request_of : Data → Result (List Asked) Word
+abbrev pub request_of : Data → Result (List MonitorRequest) Word
 request_of d = or_refuse word.SyntaxError (as_object d) >>? asked_from []

@@ -7,8 +7,8 @@ use Rattle.ovsdb_values.specs.Notation.{id_text, datum_json}
 use Rattle.vtep_schema.specs.declared.Table.{Table}
 use Rattle.vtep_schema.specs.Tables.{column_name, table_name, tables, same_table}
 use Rattle.vtep_rows.specs.Rows.{Rows, Key}
-use Rattle.monitor_updates.specs.declared.requests.Asked.{Asked}
-use Rattle.monitor_updates.specs.Noted.{Cut, Update, Fresh, Gone, Changed, noted, opening}
+use Rattle.monitor_updates.specs.declared.requests.MonitorRequest.{MonitorRequest}
+use Rattle.monitor_updates.specs.Noted.{Cut, Update, Insert, Delete, Modify, noted, opening}
 
 abbrev pub members_json : Cut → List (Bytes × Data)
 members_json cut = map (λ e. (column_name e.0, datum_json e.1)) cut
@@ -17,9 +17,9 @@ abbrev pub cut_json : Cut → Data
 cut_json cut = fields (members_json cut)
 
 abbrev pub update_json : Update → Data
-update_json (Fresh new) = fields ((codes "new", cut_json new) ∷ [])
-update_json (Gone old) = fields ((codes "old", cut_json old) ∷ [])
-update_json (Changed before new) = fields ((codes "new", cut_json new) ∷ (codes "old", cut_json before) ∷ [])
+update_json (Insert new) = fields ((codes "new", cut_json new) ∷ [])
+update_json (Delete old) = fields ((codes "old", cut_json old) ∷ [])
+update_json (Modify before new) = fields ((codes "new", cut_json new) ∷ (codes "old", cut_json before) ∷ [])
 
 -- the rows of a table, by identifier
 abbrev pub in_table : Table → List (Key × Update) → List (Bytes × Data)
@@ -38,7 +38,7 @@ abbrev pub updates_json : List (Key × Update) → Data
 updates_json us = object (tables_json (λ t. in_table t us))
 
 -- the answer to the request
-abbrev pub opening_json : List Asked → Rows → Data
+abbrev pub opening_json : List MonitorRequest → Rows → Data
 opening_json request r = updates_json (opening request r)
 
 -- the params of an update, where there is anything to tell
@@ -46,5 +46,5 @@ abbrev pub params_json : Data → List (Key × Update) → Option Data
 params_json id [] = None
 params_json id (u ∷ us) = Some (list (id ∷ updates_json (u ∷ us) ∷ []))
 
-abbrev pub notice_json : Data → List Asked → Rows → Rows → Option Data
+abbrev pub notice_json : Data → List MonitorRequest → Rows → Rows → Option Data
 notice_json id request old new = params_json id (noted request old new)

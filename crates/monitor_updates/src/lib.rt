@@ -6,13 +6,10 @@ mod mirror;
 mod monitor;
 mod opening;
 mod requests;
-mod told;
+mod row_updates;
 mod updates;
 
-pub use laws::updates_lead_on;
+pub use laws::{mirrors_follow, updates_lead_on};
 pub use mirror::{Mirror, MirrorFault};
 pub use monitor::Monitor;
-pub use requests::{Asked, MonitorFault};
-
-#[cfg(test)]
-mod tests;
+pub use requests::{MonitorFault, MonitorRequest};

@@ -6,7 +6,7 @@ ghost use Rattle.vtep_base.specs.Maps as maps;
 ghost use Rattle.vtep_schema.specs.Tables.{same_table};
 ghost use Rattle.monitor_updates.specs.Mirrored.{is_value, has_values, agrees, contradiction, applied, applied_one, taken, IsMeant, IsKept};
 
-use crate::told::{Entry, Told, told_of};
+use crate::row_updates::{KeyedUpdate, RowUpdate, told_of};
 use crate::updates::differ;
 use ovsdb_values::Datum;
 use serde_json::Value;
@@ -78,16 +78,16 @@ fn has_values(values: &[(Column, Datum)], row: &Row) -> bool
 }
 
 /// A new row is not there; one that went or changed has the old values, and is in no answer to a request.
-fn agrees(first: bool, table: Table, told: &Told, there: Option<&Row>) -> bool
+fn agrees(first: bool, table: Table, told: &RowUpdate, there: Option<&Row>) -> bool
     ensures { result ≡ agrees first table told.now (option_map (λ r. r.now) there.entry) }
 {
     match told {
-        Told::Fresh(_) => there.is_none(),
-        Told::Gone(old) => match there {
+        RowUpdate::Insert(_) => there.is_none(),
+        RowUpdate::Delete(old) => match there {
             Some(row) => !first && !differ(columns(table), old, row),
             None => false,
         },
-        Told::Changed(before, _) => match there {
+        RowUpdate::Modify(before, _) => match there {
             Some(row) => !first && has_values(before.as_slice(), row),
             None => false,
         },
@@ -95,7 +95,7 @@ fn agrees(first: bool, table: Table, told: &Told, there: Option<&Row>) -> bool
 }
 
 /// The first row that contradicts what is there.
-fn contradiction(first: bool, rows: &Store, told: &[Entry]) -> Option<(Table, RowId)>
+fn contradiction(first: bool, rows: &Store, told: &[KeyedUpdate]) -> Option<(Table, RowId)>
     ensures { result ≡ contradiction first rows.now told.now }
 {
     'told: for entry in told {
@@ -107,20 +107,20 @@ fn contradiction(first: bool, rows: &Store, told: &[Entry]) -> Option<(Table, Ro
     None
 }
 
-fn apply_one(rows: &mut Store, table: Table, id: RowId, told: Told) -> Result<(), OutOfMemory>
+fn apply_one(rows: &mut Store, table: Table, id: RowId, told: RowUpdate) -> Result<(), OutOfMemory>
     ensures { OnOk result (rows.new ≡ applied_one rows.old (table, id) told) }
 {
     match told {
-        Told::Fresh(row) => rows.put(table, id, row),
-        Told::Gone(_) => {
+        RowUpdate::Insert(row) => rows.put(table, id, row),
+        RowUpdate::Delete(_) => {
             let _gone = rows.remove(table, id);
             Ok(())
         }
-        Told::Changed(_, row) => rows.put(table, id, row),
+        RowUpdate::Modify(_, row) => rows.put(table, id, row),
     }
 }
 
-fn apply(rows: &mut Store, told: List<Entry>) -> Result<(), OutOfMemory>
+fn apply(rows: &mut Store, told: List<KeyedUpdate>) -> Result<(), OutOfMemory>
     ensures { OnOk result (rows.new ≡ applied rows.old told) }
 {
     'told: for ((table, id), told) in told.into_vec() {

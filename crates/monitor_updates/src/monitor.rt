@@ -1,21 +1,20 @@
 //! Monitors.
 
-ghost use Rattle.std.specs.Prelude.{◌≡◌, false, [], ◌∷◌, IfSome, option_map, filter_map, Ok, IfOk, IfErr};
+ghost use Rattle.std.specs.Prelude.{◌≡◌, false, [], ◌∷◌, IfSome, option_map, Ok, IfOk, IfErr};
 ghost use Rattle.serde_json.specs.Data.{object};
-ghost use Rattle.serde_json.specs.View.{view};
+ghost use Rattle.serde_json.specs.View.{view, members_view};
 ghost use Rattle.serde_json.specs.Written.{has_float};
 ghost use Rattle.json_notation.specs.Json.{list};
 ghost use Rattle.vtep_rows.specs.Rows.{Rows as AllRows};
 ghost use Rattle.vtep_rows.specs.Changes.{changes};
-ghost use Rattle.monitor_updates.specs.Updates.{tables_json, params_json, notice_json, opening_json};
-ghost use Rattle.monitor_updates.specs.Noted.{asked_of};
+ghost use Rattle.monitor_updates.specs.Updates.{params_json, notice_json, opening_json};
 ghost use Rattle.monitor_updates.specs.Requests.{IsRefusal, request_of};
-ghost use Rattle.monitor_updates.specs.Told.{told_member, noted_in};
+ghost use Rattle.monitor_updates.specs.OneRow.{noted_in};
 
 use crate::opening::opening;
-use crate::requests::{Asked, MonitorFault, request_of};
-use crate::updates::{is_noted, tables_told};
-use serde_json::Value;
+use crate::requests::{MonitorFault, MonitorRequest, request_of};
+use crate::updates::tables_told;
+use serde_json::{Map, Value};
 use std::alloc::Global;
 use vtep_base::{List, OutOfMemory};
 use vtep_rows::{Change, RowChange, Rows};
@@ -26,7 +25,7 @@ pub struct Monitor {
     /// The name that the session gave it, any JSON value.
     pub id: Value,
     /// What is asked of each table.
-    pub request: List<Asked>,
+    pub request: List<MonitorRequest>,
 }
 
 fn copy_of(value: &Value) -> Result<Value, OutOfMemory>
@@ -40,7 +39,7 @@ impl Monitor {
     ///
     /// The refusal is that of the first table, in the order of the tables' names, that has one: `unknown table`, `syntax error`,
     /// `not supported` of several requests of one table, `unknown column`.
-    #[tactic(auto, using(crate::proofs::Plain::reply_plain))]
+    #[tactic(auto, using(crate::proofs::NoFraction::reply_plain))]
     pub fn open(
         alloc: Global,
         rows: &Rows,
@@ -66,7 +65,8 @@ impl Monitor {
         ensures told { (old : AllRows) → (new : AllRows) → change.now ≡ changes old new
             → IfOk result (λ o. option_map view o ≡ notice_json (view self.now.id) self.now.request old new) }
         // Where the name has no fraction, nor has what is told.
-        ensures plain { has_float (view self.now.id) ≡ false → IfOk result (λ o. IfSome o (λ v. has_float (view v) ≡ false)) }
+        ensures plain { has_float (view self.now.id) ≡ false
+            → IfOk result (λ o. IfSome o (λ v. has_float (view v) ≡ false)) }
     {
         params_of(alloc, &self.id, self.request.as_slice(), change.as_slice())
     }
@@ -75,28 +75,26 @@ impl Monitor {
 fn params_of(
     alloc: Global,
     id: &Value,
-    request: &[Asked],
+    request: &[MonitorRequest],
     change: &[RowChange],
 ) -> Result<Option<Value>, OutOfMemory>
-    ensures { IfOk result (λ o. option_map view o ≡ params_json (view id.now) (noted_in request.now change.now)) }
+    ensures { IfOk result (λ o. option_map view o
+        ≡ params_json (view id.now) (noted_in request.now change.now)) }
 {
-    if !is_noted(request, change) {
+    let tables = tables_told(alloc, request, change)?;
+    if tables.is_empty() {
         return Ok(None);
     }
-    Ok(Some(told_params(alloc, id, request, change)?))
+    Ok(Some(told_params(alloc, id, tables)?))
 }
 
-fn told_params(
-    alloc: Global,
-    id: &Value,
-    request: &[Asked],
-    change: &[RowChange],
-) -> Result<Value, OutOfMemory>
-    ensures { IfOk result (λ v. view v ≡ list (view id.now ∷ object (tables_json (λ t. filter_map (told_member t (asked_of request.now t)) change.now)) ∷ [])) }
+/// The name and the table updates.
+fn told_params(alloc: Global, id: &Value, tables: Map<String, Value>) -> Result<Value, OutOfMemory>
+    ensures { IfOk result (λ v. view v
+        ≡ list (view id.now ∷ object (members_view tables.entries) ∷ [])) }
 {
     let mut params = Vec::new(alloc);
     params.push(id.clone()?)?;
-    let tables = tables_told(alloc, request, change)?;
     params.push(Value::Object(tables))?;
     Ok(Value::Array(params))
 }

@@ -6,10 +6,10 @@ ghost use Rattle.json_notation.specs.Json.{to_members};
 ghost use Rattle.vtep_rows.specs.Rows.{ids_of};
 ghost use Rattle.monitor_updates.specs.Noted.{asked_of};
 ghost use Rattle.monitor_updates.specs.Updates.{tables_json, opening_json};
-ghost use Rattle.monitor_updates.specs.Told.{initial_member, there_member};
+ghost use Rattle.monitor_updates.specs.OneRow.{initial_member, there_member};
 
-use crate::requests::Asked;
-use crate::updates::{asked_of, fresh_json, put_row, put_table};
+use crate::requests::MonitorRequest;
+use crate::updates::{asked_of, insert_json, put_row, put_table};
 use serde_json::{Map, Value};
 use std::alloc::Global;
 use vtep_base::{OutOfMemory, RowId};
@@ -30,16 +30,17 @@ fn ids_in(alloc: Global, rows: &Rows, table: Table) -> Result<Vec<RowId>, OutOfM
 fn rows_there(
     alloc: Global,
     table: Table,
-    asked: &Asked,
+    asked: &MonitorRequest,
     rows: &Rows,
     ids: &[RowId],
 ) -> Result<Map<String, Value>, OutOfMemory>
-    ensures { IfOk result (λ m. members_view m.entries ≡ to_members (filter_map (there_member table asked.now rows.now) ids.now)) }
+    ensures { IfOk result (λ m. members_view m.entries
+        ≡ to_members (filter_map (there_member table asked.now rows.now) ids.now)) }
 {
     let mut members = Map::new(alloc);
     'ids: for id in ids.iter().rev() {
         if let Some(row) = rows.get(table, *id) {
-            let update = fresh_json(alloc, asked, row)?;
+            let update = insert_json(alloc, asked, row)?;
             put_row(alloc, *id, update, &mut members)?;
         }
     }
@@ -48,11 +49,13 @@ fn rows_there(
 
 fn table_there(
     alloc: Global,
-    request: &[Asked],
+    request: &[MonitorRequest],
     table: Table,
     rows: &Rows,
 ) -> Result<Map<String, Value>, OutOfMemory>
-    ensures { IfOk result (λ m. members_view m.entries ≡ to_members (filter_map (initial_member table (asked_of request.now table) rows.now) (ids_of table rows.now))) }
+    ensures { IfOk result (λ m. members_view m.entries
+        ≡ to_members (filter_map (initial_member table (asked_of request.now table) rows.now)
+        (ids_of table rows.now))) }
 {
     let Some(asked) = asked_of(request, table) else {
         return Ok(Map::new(alloc));
@@ -67,10 +70,12 @@ fn table_there(
 #[tactic(auto, using(crate::proofs::Tables::with_some_is))]
 fn tables_there(
     alloc: Global,
-    request: &[Asked],
+    request: &[MonitorRequest],
     rows: &Rows,
 ) -> Result<Map<String, Value>, OutOfMemory>
-    ensures { IfOk result (λ m. members_view m.entries ≡ tables_json (λ t. filter_map (initial_member t (asked_of request.now t) rows.now) (ids_of t rows.now))) }
+    ensures { IfOk result (λ m. members_view m.entries
+        ≡ tables_json (λ t. filter_map (initial_member t (asked_of request.now t) rows.now)
+        (ids_of t rows.now))) }
 {
     let mut members = Map::new(alloc);
     'tables: for table in tables().iter().rev() {
@@ -81,7 +86,11 @@ fn tables_there(
 }
 
 /// The answer to a monitor's request: the rows that are there.
-pub(crate) fn opening(alloc: Global, request: &[Asked], rows: &Rows) -> Result<Value, OutOfMemory>
+pub(crate) fn opening(
+    alloc: Global,
+    request: &[MonitorRequest],
+    rows: &Rows,
+) -> Result<Value, OutOfMemory>
     ensures { IfOk result (λ v. view v ≡ opening_json request.now rows.now) }
 {
     Ok(Value::Object(tables_there(alloc, request, rows)?))

@@ -4,7 +4,7 @@ ghost use Rattle.std.specs.Prelude.{◌≡◌, [], Ok, Err, Some, None, option_m
 ghost use Rattle.serde_json.specs.Find.{get, as_str};
 ghost use Rattle.serde_json.specs.View.{view, items_view, members_view};
 ghost use Rattle.vtep_schema.specs.Tables.{columns_of};
-ghost use Rattle.monitor_updates.specs.Requests.{IsRefusal, all_texts, names_of, flag, is_select, flagged, form_of, all_forms, form_among, the_form, is_column, all_columns, is_among, columns_asked, asked, asked_from, request_of};
+ghost use Rattle.monitor_updates.specs.Requests.{IsRefusal, all_texts, names_of, flag, select_of, form_of, all_forms, form_among, the_form, is_column, all_columns, is_among, columns_asked, asked, asked_from, request_of};
 ghost use Rattle.vtep_base.specs.declared.words.Word.TheVariants.{SyntaxError};
 ghost use Rattle.monitor_updates.specs.Seen.{seen};
 
@@ -13,9 +13,9 @@ use std::alloc::Global;
 use vtep_base::{List, OutOfMemory, Word};
 use vtep_schema::{Column, Table, column_name, columns, named};
 
-/// What is asked of one table (RFC 7047, section 4.1.5).
+/// What a monitor asks of one table, its monitor request (RFC 7047, section 4.1.5).
 #[derive(Debug, Drop)]
-pub struct Asked {
+pub struct MonitorRequest {
     /// The table that is monitored.
     pub table: Table,
     /// The columns that are told, each once, in the order of the table's.
@@ -84,7 +84,8 @@ fn all_texts(values: &[Value]) -> bool
 }
 
 fn names_of(columns: Option<&Value>) -> Option<Option<&[Value]>>
-    ensures { option_map (option_map (λ s. items_view s.now)) result ≡ names_of (option_map (λ v. view v.now) columns.entry) }
+    ensures { option_map (option_map (λ s. items_view s.now)) result
+        ≡ names_of (option_map (λ v. view v.now) columns.entry) }
 {
     let Some(columns) = columns else {
         return Some(None);
@@ -110,18 +111,29 @@ fn flag(select: Option<&Value>, name: &str) -> Option<bool>
     }
 }
 
-fn is_select(select: Option<&Value>) -> bool
-    ensures { result ≡ is_select (option_map (λ v. view v.now) select.entry) }
+/// An object, where it is given.
+fn select_of(select: Option<&Value>) -> Option<Option<&Value>>
+    ensures { option_map (option_map (λ v. view v.now)) result
+        ≡ select_of (option_map (λ v. view v.now) select.entry) }
 {
-    match select {
-        Some(select) => select.is_object(),
-        None => true,
+    let Some(select) = select else {
+        return Some(None);
+    };
+    if select.is_object() {
+        Some(Some(select))
+    } else {
+        None
     }
 }
 
-fn flagged<'a>(names: Option<&'a [Value]>, select: Option<&Value>) -> Option<Form<'a>>
-    ensures { option_map seen result ≡ flagged (option_map (λ s. items_view s.now) names.entry) (option_map (λ v. view v.now) select.entry) }
+fn form_of(value: &Value) -> Option<Form<'_>>
+    ensures { option_map seen result ≡ form_of (view value.now) }
 {
+    if !value.is_object() {
+        return None;
+    }
+    let names = names_of(value.get("columns"))?;
+    let select = select_of(value.get("select"))?;
     let initial = flag(select, "initial")?;
     let insert = flag(select, "insert")?;
     let delete = flag(select, "delete")?;
@@ -133,21 +145,6 @@ fn flagged<'a>(names: Option<&'a [Value]>, select: Option<&Value>) -> Option<For
         delete,
         modify,
     })
-}
-
-fn form_of(value: &Value) -> Option<Form<'_>>
-    ensures { option_map seen result ≡ form_of (view value.now) }
-{
-    if !value.is_object() {
-        return None;
-    }
-    let names = names_of(value.get("columns"))?;
-    let select = value.get("select");
-    if is_select(select) {
-        flagged(names, select)
-    } else {
-        None
-    }
 }
 
 fn all_forms(values: &[Value]) -> bool
@@ -162,7 +159,8 @@ fn all_forms(values: &[Value]) -> bool
 }
 
 fn form_or_fault(value: &Value) -> Result<Form<'_>, Word>
-    ensures { MatchResult result (λ f. form_of (view value.now) ≡ Some (seen f)) (λ w. (w ≡ SyntaxError) × (form_of (view value.now) ≡ None)) }
+    ensures { MatchResult result (λ f. form_of (view value.now) ≡ Some (seen f))
+        (λ w. (w ≡ SyntaxError) × (form_of (view value.now) ≡ None)) }
 {
     match form_of(value) {
         Some(form) => Ok(form),
@@ -172,7 +170,8 @@ fn form_or_fault(value: &Value) -> Result<Form<'_>, Word>
 
 /// An array holds one object; each of several is read before they are refused.
 fn form_among(values: &[Value]) -> Result<Form<'_>, Word>
-    ensures { MatchResult result (λ f. form_among (items_view values.now) ≡ Ok (seen f)) (λ w. form_among (items_view values.now) ≡ Err w) }
+    ensures { MatchResult result (λ f. form_among (items_view values.now) ≡ Ok (seen f))
+        (λ w. form_among (items_view values.now) ≡ Err w) }
 {
     match values {
         [] => Err(Word::SyntaxError),
@@ -188,7 +187,8 @@ fn form_among(values: &[Value]) -> Result<Form<'_>, Word>
 }
 
 fn the_form(value: &Value) -> Result<Form<'_>, Word>
-    ensures { MatchResult result (λ f. the_form (view value.now) ≡ Ok (seen f)) (λ w. the_form (view value.now) ≡ Err w) }
+    ensures { MatchResult result (λ f. the_form (view value.now) ≡ Ok (seen f))
+        (λ w. the_form (view value.now) ≡ Err w) }
 {
     match value.as_array() {
         Some(values) => form_among(values.as_slice()),
@@ -256,8 +256,10 @@ fn columns_asked(
     table: Table,
     names: Option<&[Value]>,
 ) -> Result<List<Column>, MonitorFault>
-    ensures ok { IfOk result (λ found. columns_asked table (option_map (λ s. items_view s.now) names.entry) ≡ Ok found) }
-    ensures err { IfErr result (λ f. IsRefusal f (columns_asked table (option_map (λ s. items_view s.now) names.entry))) }
+    ensures ok { IfOk result (λ found. columns_asked table
+        (option_map (λ s. items_view s.now) names.entry) ≡ Ok found) }
+    ensures err { IfErr result (λ f. IsRefusal f
+        (columns_asked table (option_map (λ s. items_view s.now) names.entry))) }
 {
     let Some(names) = names else {
         return Ok(all_of(alloc, columns(table))?);
@@ -268,7 +270,7 @@ fn columns_asked(
     Ok(columns_among(alloc, columns(table), names)?)
 }
 
-fn asked_of_table(alloc: Global, name: &str, value: &Value) -> Result<Asked, MonitorFault>
+fn asked_of_table(alloc: Global, name: &str, value: &Value) -> Result<MonitorRequest, MonitorFault>
     ensures ok { IfOk result (λ a. asked name.now (view value.now) ≡ Ok a) }
     ensures err { IfErr result (λ f. IsRefusal f (asked name.now (view value.now))) }
 {
@@ -277,7 +279,7 @@ fn asked_of_table(alloc: Global, name: &str, value: &Value) -> Result<Asked, Mon
     };
     let form = the_form(value)?;
     let columns = columns_asked(alloc, table, form.names)?;
-    Ok(Asked {
+    Ok(MonitorRequest {
         table,
         columns,
         initial: form.initial,
@@ -287,9 +289,13 @@ fn asked_of_table(alloc: Global, name: &str, value: &Value) -> Result<Asked, Mon
     })
 }
 
-fn asked_of_each(alloc: Global, members: &Map<String, Value>) -> Result<List<Asked>, MonitorFault>
+fn asked_of_each(
+    alloc: Global,
+    members: &Map<String, Value>,
+) -> Result<List<MonitorRequest>, MonitorFault>
     ensures ok { IfOk result (λ r. asked_from [] (members_view members.now.entries) ≡ Ok r) }
-    ensures err { IfErr result (λ f. IsRefusal f (asked_from [] (members_view members.now.entries))) }
+    ensures err { IfErr result (λ f. IsRefusal f
+        (asked_from [] (members_view members.now.entries))) }
 {
     let mut request = List::new(alloc);
     'members: for (name, value) in members.iter() {
@@ -299,7 +305,10 @@ fn asked_of_each(alloc: Global, members: &Map<String, Value>) -> Result<List<Ask
 }
 
 /// What is asked of each table, in the order of the tables' names.
-pub(crate) fn request_of(alloc: Global, requests: &Value) -> Result<List<Asked>, MonitorFault>
+pub(crate) fn request_of(
+    alloc: Global,
+    requests: &Value,
+) -> Result<List<MonitorRequest>, MonitorFault>
     ensures ok { IfOk result (λ r. request_of (view requests.now) ≡ Ok r) }
     ensures err { IfErr result (λ f. IsRefusal f (request_of (view requests.now))) }
 {

@@ -1,7 +1,6 @@
 //! Row updates as they are sent (RFC 7047, section 4.1.6).
 
 ghost use Rattle.std.specs.Prelude.{◌≡◌, [], Some, None, option_map, is_some, filter_map, IfOk, OnOk};
-ghost use Rattle.std.specs.List.{list_any};
 ghost use Rattle.serde_json.specs.Data.{put as with_member};
 ghost use Rattle.serde_json.specs.View.{view, members_view};
 ghost use Rattle.json_notation.specs.Json.{to_members};
@@ -10,11 +9,11 @@ ghost use Rattle.ovsdb_values.specs.Sets.{same_datum};
 ghost use Rattle.ovsdb_values.specs.declared.datums.Datum.TheVariants.{Set};
 ghost use Rattle.vtep_schema.specs.Tables.{column_name};
 ghost use Rattle.vtep_rows.specs.Row.{value_at};
-ghost use Rattle.monitor_updates.specs.Noted.{cut, differing, asked_of, Fresh, Gone, Changed};
+ghost use Rattle.monitor_updates.specs.Noted.{cut, differing, asked_of, Insert, Delete, Modify};
 ghost use Rattle.monitor_updates.specs.Updates.{members_json, update_json, table_member, tables_json};
-ghost use Rattle.monitor_updates.specs.Told.{told_by, told_member, with_some, is_any};
+ghost use Rattle.monitor_updates.specs.OneRow.{told_by, told_member, with_some, is_any};
 
-use crate::requests::Asked;
+use crate::requests::MonitorRequest;
 use ovsdb_values::{AtomSet, Datum, to_json};
 use serde_json::{Map, Value, put};
 use std::alloc::Global;
@@ -24,7 +23,7 @@ use vtep_rows::{Row, RowChange};
 use vtep_schema::{Column, Table, column_name, shape, table_name, tables};
 
 /// What is asked of a table.
-pub(crate) fn asked_of(request: &[Asked], table: Table) -> Option<&Asked>
+pub(crate) fn asked_of(request: &[MonitorRequest], table: Table) -> Option<&MonitorRequest>
     ensures { option_map (λ a. a.now) result ≡ asked_of request.now table }
 {
     'request: for asked in request {
@@ -89,7 +88,9 @@ fn put_value(
     column: Column,
     members: &mut Map<String, Value>,
 ) -> Result<(), OutOfMemory>
-    ensures { OnOk result (members_view members.new.entries ≡ with_member (column_name column) (datum_json (value_at row.now column)) (members_view members.old.entries)) }
+    ensures { OnOk result (members_view members.new.entries
+        ≡ with_member (column_name column) (datum_json (value_at row.now column))
+        (members_view members.old.entries)) }
 {
     let value = value_json(alloc, row, column)?;
     Ok(put(members, alloc, column_name(column), value)?)
@@ -101,7 +102,8 @@ fn cut_members(
     columns: &[Column],
     row: &Row,
 ) -> Result<Map<String, Value>, OutOfMemory>
-    ensures { IfOk result (λ m. members_view m.entries ≡ to_members (members_json (cut columns.now row.now))) }
+    ensures { IfOk result (λ m. members_view m.entries
+        ≡ to_members (members_json (cut columns.now row.now))) }
 {
     let mut members = Map::new(alloc);
     'columns: for column in columns.iter().rev() {
@@ -117,7 +119,9 @@ fn differing_members(
     old: &Row,
     new: &Row,
 ) -> Result<Map<String, Value>, OutOfMemory>
-    ensures { IfOk result (λ m. members_view m.entries ≡ to_members (members_json (differing (cut columns.now old.now) (cut columns.now new.now)))) }
+    ensures { IfOk result (λ m. members_view m.entries
+        ≡ to_members (members_json (differing (cut columns.now old.now)
+        (cut columns.now new.now)))) }
 {
     let mut members = Map::new(alloc);
     'columns: for column in columns.iter().rev() {
@@ -129,8 +133,12 @@ fn differing_members(
 }
 
 /// A row that came: all its monitored columns.
-pub(crate) fn fresh_json(alloc: Global, asked: &Asked, new: &Row) -> Result<Value, OutOfMemory>
-    ensures { IfOk result (λ v. view v ≡ update_json (Fresh (cut asked.now.columns new.now))) }
+pub(crate) fn insert_json(
+    alloc: Global,
+    asked: &MonitorRequest,
+    new: &Row,
+) -> Result<Value, OutOfMemory>
+    ensures { IfOk result (λ v. view v ≡ update_json (Insert (cut asked.now.columns new.now))) }
 {
     let mut update = Map::new(alloc);
     let columns = cut_members(alloc, asked.columns.as_slice(), new)?;
@@ -139,8 +147,8 @@ pub(crate) fn fresh_json(alloc: Global, asked: &Asked, new: &Row) -> Result<Valu
 }
 
 /// A row that went: all its monitored columns.
-fn gone_json(alloc: Global, asked: &Asked, old: &Row) -> Result<Value, OutOfMemory>
-    ensures { IfOk result (λ v. view v ≡ update_json (Gone (cut asked.now.columns old.now))) }
+fn delete_json(alloc: Global, asked: &MonitorRequest, old: &Row) -> Result<Value, OutOfMemory>
+    ensures { IfOk result (λ v. view v ≡ update_json (Delete (cut asked.now.columns old.now))) }
 {
     let mut update = Map::new(alloc);
     let columns = cut_members(alloc, asked.columns.as_slice(), old)?;
@@ -149,8 +157,15 @@ fn gone_json(alloc: Global, asked: &Asked, old: &Row) -> Result<Value, OutOfMemo
 }
 
 /// A row that changed: the old values of the columns that differ, and all new ones.
-fn changed_json(alloc: Global, asked: &Asked, old: &Row, new: &Row) -> Result<Value, OutOfMemory>
-    ensures { IfOk result (λ v. view v ≡ update_json (Changed (differing (cut asked.now.columns old.now) (cut asked.now.columns new.now)) (cut asked.now.columns new.now))) }
+fn modify_json(
+    alloc: Global,
+    asked: &MonitorRequest,
+    old: &Row,
+    new: &Row,
+) -> Result<Value, OutOfMemory>
+    ensures { IfOk result (λ v. view v
+        ≡ update_json (Modify (differing (cut asked.now.columns old.now)
+        (cut asked.now.columns new.now)) (cut asked.now.columns new.now))) }
 {
     let mut update = Map::new(alloc);
     let before = differing_members(alloc, asked.columns.as_slice(), old, new)?;
@@ -161,7 +176,7 @@ fn changed_json(alloc: Global, asked: &Asked, old: &Row, new: &Row) -> Result<Va
 }
 
 /// A row that is there before or after is told.
-fn is_told(asked: &Asked, change: &RowChange) -> bool
+fn is_told(asked: &MonitorRequest, change: &RowChange) -> bool
     ensures { result ≡ is_some (told_by (Some asked.now) change.now.old change.now.new) }
 {
     let Some(old) = &change.old else {
@@ -173,21 +188,26 @@ fn is_told(asked: &Asked, change: &RowChange) -> bool
     asked.modify && differ(asked.columns.as_slice(), old, new)
 }
 
-fn told_json(alloc: Global, asked: &Asked, change: &RowChange) -> Result<Option<Value>, OutOfMemory>
-    ensures { IfOk result (λ o. option_map view o ≡ option_map update_json (told_by (Some asked.now) change.now.old change.now.new)) }
+fn told_json(
+    alloc: Global,
+    asked: &MonitorRequest,
+    change: &RowChange,
+) -> Result<Option<Value>, OutOfMemory>
+    ensures { IfOk result (λ o. option_map view o
+        ≡ option_map update_json (told_by (Some asked.now) change.now.old change.now.new)) }
 {
     if !is_told(asked, change) {
         return Ok(None);
     }
     let Some(old) = &change.old else {
         return match &change.new {
-            Some(new) => Ok(Some(fresh_json(alloc, asked, new)?)),
+            Some(new) => Ok(Some(insert_json(alloc, asked, new)?)),
             None => Ok(None),
         };
     };
     match &change.new {
-        Some(new) => Ok(Some(changed_json(alloc, asked, old, new)?)),
-        None => Ok(Some(gone_json(alloc, asked, old)?)),
+        Some(new) => Ok(Some(modify_json(alloc, asked, old, new)?)),
+        None => Ok(Some(delete_json(alloc, asked, old)?)),
     }
 }
 
@@ -198,7 +218,8 @@ pub(crate) fn put_row(
     update: Value,
     members: &mut Map<String, Value>,
 ) -> Result<(), OutOfMemory>
-    ensures { OnOk result (members_view members.new.entries ≡ with_member (id_text id) (view update) (members_view members.old.entries)) }
+    ensures { OnOk result (members_view members.new.entries
+        ≡ with_member (id_text id) (view update) (members_view members.old.entries)) }
 {
     let mut buffer = Uuid::encode_buffer();
     let text = Uuid::from_u128(id).hyphenated().encode_lower(&mut buffer);
@@ -209,10 +230,11 @@ pub(crate) fn put_row(
 fn rows_told(
     alloc: Global,
     table: Table,
-    asked: &Asked,
+    asked: &MonitorRequest,
     change: &[RowChange],
 ) -> Result<Map<String, Value>, OutOfMemory>
-    ensures { IfOk result (λ m. members_view m.entries ≡ to_members (filter_map (told_member table (Some asked.now)) change.now)) }
+    ensures { IfOk result (λ m. members_view m.entries
+        ≡ to_members (filter_map (told_member table (Some asked.now)) change.now)) }
 {
     let mut members = Map::new(alloc);
     'change: for row in change.iter().rev() {
@@ -227,11 +249,12 @@ fn rows_told(
 
 fn table_told(
     alloc: Global,
-    request: &[Asked],
+    request: &[MonitorRequest],
     table: Table,
     change: &[RowChange],
 ) -> Result<Map<String, Value>, OutOfMemory>
-    ensures { IfOk result (λ m. members_view m.entries ≡ to_members (filter_map (told_member table (asked_of request.now table)) change.now)) }
+    ensures { IfOk result (λ m. members_view m.entries
+        ≡ to_members (filter_map (told_member table (asked_of request.now table)) change.now)) }
 {
     match asked_of(request, table) {
         Some(asked) => rows_told(alloc, table, asked, change),
@@ -247,7 +270,9 @@ pub(crate) fn put_table(
     rows: Map<String, Value>,
     members: &mut Map<String, Value>,
 ) -> Result<(), OutOfMemory>
-    ensures { OnOk result (members_view members.new.entries ≡ with_some (table_member table (members_view rows.entries)) (members_view members.old.entries)) }
+    ensures { OnOk result (members_view members.new.entries
+        ≡ with_some (table_member table (members_view rows.entries))
+        (members_view members.old.entries)) }
 {
     if rows.is_empty() {
         return Ok(());
@@ -259,10 +284,11 @@ pub(crate) fn put_table(
 #[tactic(auto, using(crate::proofs::Tables::with_some_is))]
 pub(crate) fn tables_told(
     alloc: Global,
-    request: &[Asked],
+    request: &[MonitorRequest],
     change: &[RowChange],
 ) -> Result<Map<String, Value>, OutOfMemory>
-    ensures { IfOk result (λ m. members_view m.entries ≡ tables_json (λ t. filter_map (told_member t (asked_of request.now t)) change.now)) }
+    ensures { IfOk result (λ m. members_view m.entries
+        ≡ tables_json (λ t. filter_map (told_member t (asked_of request.now t)) change.now)) }
 {
     let mut members = Map::new(alloc);
     'tables: for table in tables().iter().rev() {
@@ -270,18 +296,4 @@ pub(crate) fn tables_told(
         put_table(alloc, *table, rows, &mut members)?;
     }
     Ok(members)
-}
-
-/// Some row of the change is told.
-pub(crate) fn is_noted(request: &[Asked], change: &[RowChange]) -> bool
-    ensures { result ≡ list_any (λ c. is_some (told_by (asked_of request.now c.table) c.old c.new)) change.now }
-{
-    'change: for row in change {
-        if let Some(asked) = asked_of(request, row.table) {
-            if is_told(asked, row) {
-                return true;
-            }
-        }
-    }
-    false
 }

@@ -5,6 +5,7 @@ use Rattle.std.specs.Int.{w64, w128, to_be_bytes, from_be_bytes}
 use Rattle.uuid.specs.Text.{hyphenated_text, lower, parsed}
 use Rattle.serde_json.specs.Data.{Data, number, string}
 use Rattle.serde_json.specs.Find.{of_integer}
+use Rattle.vtep_base.specs.Answers.{OrMemory}
 use Rattle.vtep_base.specs.Reading.{Bytes, same_bytes}
 use Rattle.vtep_base.specs.declared.shapes.Shape.{Shape}
 use Rattle.vtep_base.specs.declared.shapes.Kind.{Kind}
@@ -104,11 +105,14 @@ abbrev pub datum_by : Kind → Option Kind → Data → Result Datum NotationFau
 datum_by k None d = as_set (atoms_of k d)
 datum_by k (Some v) d = as_map (pairs_of k v d)
 
--- a call's fault is the one that is meant, or want of memory
+abbrev pub refusal_of : NotationFault → Option NotationFault
+refusal_of OutOfMemory = None
+refusal_of Notation = Some Notation
+refusal_of Repeated = Some Repeated
+
+-- the fault is the one that is meant, or want of memory
 abbrev pub IsOrMemory : NotationFault → Result Datum NotationFault → Type 0
-IsOrMemory OutOfMemory meant = Unit {0}
-IsOrMemory Notation meant = meant ≡ Err Notation
-IsOrMemory Repeated meant = meant ≡ Err Repeated
+IsOrMemory fault meant = OrMemory (refusal_of fault) (λ refusal. meant ≡ Err refusal)
 
 -- the set or the map that a value means in a shape, or its fault
 abbrev pub datum_of : Shape → Data → Result Datum NotationFault

@@ -46,7 +46,8 @@ impl AtomMap {
     /// The map of these pairs, or none where a key stands twice.
     pub fn of(alloc: Global, pairs: List<(Atom, Atom)>) -> Result<Option<AtomMap>, OutOfMemory>
         ensures value { IfOk result (λ m. m ≡ map_from [] pairs) }
-        ensures ordered { IfOk result (λ m. IfSome m (λ ps. IsStrictlySortedBy atom_cmp (keys_of ps))) }
+        ensures ordered { IfOk result
+            (λ m. IfSome m (λ ps. IsStrictlySortedBy atom_cmp (keys_of ps))) }
     {
         let mut ordered = BTreeMap::new(alloc);
         'pairs: for (key, value) in pairs.into_vec() {
@@ -170,7 +171,7 @@ fn in_key_order(
     ensures value { IfOk result (λ pairs. pairs.items ≡ ordered.entries) }
     ensures ordered { IfOk result (λ pairs. IsStrictlySortedBy atom_cmp (keys_of pairs.items)) }
 {
-    let mut pairs = Vec::new(alloc);
+    let mut pairs = Vec::with_capacity(alloc, ordered.len())?;
     'ordered: for pair in ordered {
         pairs.push(pair)?;
     }
@@ -188,7 +189,7 @@ fn copy_pair(alloc: Global, pair: &(Atom, Atom)) -> Result<(Atom, Atom), OutOfMe
 fn copy_pairs(alloc: Global, pairs: &[(Atom, Atom)]) -> Result<Vec<(Atom, Atom)>, OutOfMemory>
     ensures { IfOk result (λ copy. copy.items ≡ pairs.now) }
 {
-    let mut copy = Vec::new(alloc);
+    let mut copy = Vec::with_capacity(alloc, pairs.len())?;
     'pairs: for pair in pairs {
         copy.push(copy_pair(alloc, pair)?)?;
     }
@@ -214,7 +215,8 @@ fn pairs_without_keys(
     pairs: &[(Atom, Atom)],
     keys: &[Atom],
 ) -> Result<Vec<(Atom, Atom)>, OutOfMemory>
-    ensures { IfOk result (λ rest. rest.items ≡ filter (λ p. not (has_atom keys.now p.0)) pairs.now) }
+    ensures { IfOk result (λ rest. rest.items
+        ≡ filter (λ p. not (has_atom keys.now p.0)) pairs.now) }
 {
     let mut rest = Vec::new(alloc);
     'pairs: for pair in pairs {
@@ -222,6 +224,7 @@ fn pairs_without_keys(
             rest.push(copy_pair(alloc, pair)?)?;
         }
     }
+    rest.shrink_to_fit();
     Ok(rest)
 }
 
@@ -231,7 +234,8 @@ fn other_pairs(
     pairs: &[(Atom, Atom)],
     others: &[(Atom, Atom)],
 ) -> Result<Vec<(Atom, Atom)>, OutOfMemory>
-    ensures { IfOk result (λ rest. rest.items ≡ filter (λ p. not (has_pair others.now p)) pairs.now) }
+    ensures { IfOk result (λ rest. rest.items
+        ≡ filter (λ p. not (has_pair others.now p)) pairs.now) }
 {
     let mut rest = Vec::new(alloc);
     'pairs: for pair in pairs {
@@ -239,5 +243,6 @@ fn other_pairs(
             rest.push(copy_pair(alloc, pair)?)?;
         }
     }
+    rest.shrink_to_fit();
     Ok(rest)
 }

@@ -44,7 +44,7 @@ impl AtomSet {
     pub fn one(alloc: Global, atom: Atom) -> Result<AtomSet, OutOfMemory>
         ensures { IfOk result (λ set. set ≡ atom ∷ []) }
     {
-        let mut atoms = Vec::new(alloc);
+        let mut atoms = Vec::with_capacity(alloc, 1)?;
         atoms.push(atom)?;
         Ok(AtomSet { atoms })
     }
@@ -151,7 +151,7 @@ fn in_order(alloc: Global, ordered: BTreeSet<Atom>) -> Result<Vec<Atom>, OutOfMe
     ensures value { IfOk result (λ atoms. atoms.items ≡ ordered.keys) }
     ensures ordered { IfOk result (λ atoms. IsStrictlySortedBy atom_cmp atoms.items) }
 {
-    let mut atoms = Vec::new(alloc);
+    let mut atoms = Vec::with_capacity(alloc, ordered.len())?;
     'ordered: for atom in ordered {
         atoms.push(atom)?;
     }
@@ -161,7 +161,7 @@ fn in_order(alloc: Global, ordered: BTreeSet<Atom>) -> Result<Vec<Atom>, OutOfMe
 fn copy_atoms(alloc: Global, atoms: &[Atom]) -> Result<Vec<Atom>, OutOfMemory>
     ensures { IfOk result (λ copy. copy.items ≡ atoms.now) }
 {
-    let mut copy = Vec::new(alloc);
+    let mut copy = Vec::with_capacity(alloc, atoms.len())?;
     'atoms: for atom in atoms {
         copy.push(atom.copy(alloc)?)?;
     }
@@ -179,7 +179,8 @@ fn add_copies(to: &mut List<Atom>, alloc: Global, atoms: &[Atom]) -> Result<(), 
 
 /// Those of the atoms that are not among the others, which keep their order.
 fn other_atoms(alloc: Global, atoms: &[Atom], others: &[Atom]) -> Result<Vec<Atom>, OutOfMemory>
-    ensures { IfOk result (λ rest. rest.items ≡ filter (λ x. not (has_atom others.now x)) atoms.now) }
+    ensures { IfOk result (λ rest. rest.items
+        ≡ filter (λ x. not (has_atom others.now x)) atoms.now) }
 {
     let mut rest = Vec::new(alloc);
     'atoms: for atom in atoms {
@@ -187,5 +188,6 @@ fn other_atoms(alloc: Global, atoms: &[Atom], others: &[Atom]) -> Result<Vec<Ato
             rest.push(atom.copy(alloc)?)?;
         }
     }
+    rest.shrink_to_fit();
     Ok(rest)
 }

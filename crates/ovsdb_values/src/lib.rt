@@ -49,18 +49,19 @@ impl From<vtep_base::OutOfMemory> for NotationFault {
 
 /// A law: reading what is written of a datum of a shape gives the datum.
 pub fn written_is_read()
-    ensures { (shape : Shape) (datum : Datum) → IsOf shape datum → datum_of shape (datum_json datum) ≡ Ok datum }
+    ensures { (shape : Shape) (datum : Datum) → IsOf shape datum → datum_of shape (datum_json datum)
+        ≡ Ok datum }
 {}
 
 /// Laws: what a set or a map holds is what the list holds that it is made of, in order; of the pairs with one key it has the
 /// first. Two values are the same by test exactly where they are equal.
 pub fn sets_hold_their_atoms()
     ensures in_order { (atoms : Items Atom) → IsStrictlySortedBy atom_cmp (set_of atoms) }
-    ensures members { (atoms : Items Atom) (atom : Atom) → has_atom (set_of atoms) atom ≡ has_atom atoms atom }
-    ensures keys_in_order { (pairs : Items (Atom × Atom)) → IsStrictlySortedBy atom_cmp (keys_of (map_of pairs)) }
-    ensures values { (pairs : Items (Atom × Atom)) (key : Atom) → value_in (map_of pairs) key ≡ value_in pairs key }
+    ensures members { (atoms : Items Atom) (atom : Atom) → has_atom (set_of atoms) atom
+        ≡ has_atom atoms atom }
+    ensures keys_in_order { (pairs : Items (Atom × Atom))
+        → IsStrictlySortedBy atom_cmp (keys_of (map_of pairs)) }
+    ensures values { (pairs : Items (Atom × Atom)) (key : Atom) → value_in (map_of pairs) key
+        ≡ value_in pairs key }
     ensures same { (one two : Datum) → Decides (same_datum one two) (one ≡ two) }
 {}
-
-#[cfg(test)]
-mod tests;

@@ -148,7 +148,8 @@ fn read_entry(
 
 #[tactic(auto, using(crate::proofs::Carried::all_pushed))]
 fn read_each(alloc: Global, kind: Kind, values: &[Value]) -> Result<Option<List<Atom>>, OutOfMemory>
-    ensures value { IfOk result (λ atoms. atoms ≡ each_from (atom_of kind) [] (map view values.now)) }
+    ensures value { IfOk result (λ atoms. atoms
+        ≡ each_from (atom_of kind) [] (map view values.now)) }
     ensures of_kind { IfOk result (λ atoms. IfSome atoms (AllByRecursion (IsOfKind kind))) }
 {
     let mut atoms = List::new(alloc);
@@ -168,7 +169,8 @@ fn read_entries(
     value: Kind,
     values: &[Value],
 ) -> Result<Option<List<(Atom, Atom)>>, OutOfMemory>
-    ensures value { IfOk result (λ pairs. pairs ≡ each_from (entry_of key value) [] (map view values.now)) }
+    ensures value { IfOk result (λ pairs. pairs
+        ≡ each_from (entry_of key value) [] (map view values.now)) }
     ensures of_kinds { IfOk result (λ pairs. IfSome pairs (AllByRecursion (IsOfPair key value))) }
 {
     let mut pairs = List::new(alloc);
@@ -208,13 +210,15 @@ pub fn atoms_from_json(
 }
 
 fn set_in(value: &Value) -> Option<&[Value]>
-    ensures { option_map (λ s. map view s.now) result ≡ option_and_then list_of (behind (codes "set") (view value.now)) }
+    ensures { option_map (λ s. map view s.now) result
+        ≡ option_and_then list_of (behind (codes "set") (view value.now)) }
 {
     items(behind("set", value)?)
 }
 
 fn map_in(value: &Value) -> Option<&[Value]>
-    ensures { option_map (λ s. map view s.now) result ≡ option_and_then list_of (behind (codes "map") (view value.now)) }
+    ensures { option_map (λ s. map view s.now) result
+        ≡ option_and_then list_of (behind (codes "map") (view value.now)) }
 {
     items(behind("map", value)?)
 }
@@ -238,7 +242,8 @@ pub fn pairs_from_json(
 fn read_set(alloc: Global, kind: Kind, value: &Value) -> Result<Datum, NotationFault>
     ensures ok { IfOk result (λ datum. as_set (atoms_of kind (view value.now)) ≡ Ok datum) }
     ensures of_kind { IfOk result (IsOfKinds kind None) }
-    ensures err { IfErr result (λ fault. IsOrMemory fault (as_set (atoms_of kind (view value.now)))) }
+    ensures err { IfErr result (λ fault. IsOrMemory fault
+        (as_set (atoms_of kind (view value.now)))) }
 {
     let Some(atoms) = atoms_from_json(alloc, kind, value)? else {
         return Err(NotationFault::Notation);
@@ -252,7 +257,8 @@ fn read_set(alloc: Global, kind: Kind, value: &Value) -> Result<Datum, NotationF
 fn read_map(alloc: Global, key: Kind, value: Kind, pairs: &Value) -> Result<Datum, NotationFault>
     ensures ok { IfOk result (λ datum. as_map (pairs_of key value (view pairs.now)) ≡ Ok datum) }
     ensures of_kinds { IfOk result (IsOfKinds key (Some value)) }
-    ensures err { IfErr result (λ fault. IsOrMemory fault (as_map (pairs_of key value (view pairs.now)))) }
+    ensures err { IfErr result (λ fault. IsOrMemory fault
+        (as_map (pairs_of key value (view pairs.now)))) }
 {
     let Some(read) = pairs_from_json(alloc, key, value, pairs)? else {
         return Err(NotationFault::Notation);

@@ -96,7 +96,8 @@ fn set_json(alloc: Global, atoms: &[Atom]) -> Result<Value, OutOfMemory>
 pub fn to_json(alloc: Global, datum: &Datum, shape: Shape) -> Result<Value, OutOfMemory>
     ensures value { IfOk result (λ value. view value ≡ datum_json datum.now) }
     // What is written of a datum of the shape means that datum.
-    ensures read_back { IsOf shape datum.now → IfOk result (λ value. datum_of shape (view value) ≡ Ok datum.now) }
+    ensures read_back { IsOf shape datum.now
+        → IfOk result (λ value. datum_of shape (view value) ≡ Ok datum.now) }
 {
     datum_json(alloc, datum)
 }

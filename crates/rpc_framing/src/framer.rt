@@ -111,8 +111,10 @@ impl Framer {
 
     /// Takes the first message off the stream, or says where and why none can come.
     fn take(&mut self) -> Result<Option<Message>, NextFault>
-        ensures ok { IfOk result (λ o. next self.old ≡ record { answer = answered (option_map said o); left = self.new }) }
-        ensures refused { (f : Framing) → result ≡ Err (NextFault.Refused f) → next self.old ≡ record { answer = Refuses f; left = self.new } }
+        ensures ok { IfOk result (λ o. next self.old
+            ≡ record { answer = answered (option_map said o); left = self.new }) }
+        ensures refused { (f : Framing) → result ≡ Err (NextFault.Refused f) → next self.old
+            ≡ record { answer = Refuses f; left = self.new } }
         ensures memory { result ≡ Err NextFault.OutOfMemory → self.new ≡ self.old }
     {
         if let Some(framing) = self.refused {
@@ -159,16 +161,22 @@ impl Framer {
     /// Takes the first message off the stream, or says where and why none can come. None where no whole one is there yet.
     /// A message that comes has no fraction, and some whole text says it, so that `print` can write it.
     pub fn next(&mut self) -> Result<Option<Message>, NextFault>
-        ensures ok { IfOk result (λ o. next self.old ≡ record { answer = answered (option_map said o); left = self.new }) }
-        ensures refused { (f : Framing) → result ≡ Err (NextFault.Refused f) → next self.old ≡ record { answer = Refuses f; left = self.new } }
+        ensures ok { IfOk result (λ o. next self.old
+            ≡ record { answer = answered (option_map said o); left = self.new }) }
+        ensures refused { (f : Framing) → result ≡ Err (NextFault.Refused f) → next self.old
+            ≡ record { answer = Refuses f; left = self.new } }
         ensures memory { result ≡ Err NextFault.OutOfMemory → self.new ≡ self.old }
 
         // What comes is this message, and what comes of what is left. That is less.
-        ensures comes { IfOk result (λ o. come self.old ≡ comes_after (option_map said o) self.new) }
-        ensures ends { (f : Framing) → result ≡ Err (NextFault.Refused f) → (come self.old ≡ no_more self.new) × (self.new.refused ≡ Some f) }
+        ensures comes { IfOk result (λ o. come self.old
+            ≡ comes_after (option_map said o) self.new) }
+        ensures ends { (f : Framing) → result ≡ Err (NextFault.Refused f)
+            → (come self.old ≡ no_more self.new) × (self.new.refused ≡ Some f) }
         ensures waits { IfOk result (λ o. IfNone o (self.new.refused ≡ None)) }
-        ensures shorter { IfOk result (λ o. IfSome o (λ _. length self.new.rest < length self.old.rest)) }
-        ensures plain { IfOk result (λ o. IfSome o (λ m. has_float (message_json (said m)) ≡ false)) }
+        ensures shorter { IfOk result
+            (λ o. IfSome o (λ _. length self.new.rest < length self.old.rest)) }
+        ensures plain { IfOk result (λ o. IfSome o
+            (λ m. has_float (message_json (said m)) ≡ false)) }
         ensures told { IfOk result (λ o. IfSome o (λ m. IsTold (said m))) }
     {
         self.take()

@@ -80,8 +80,10 @@ fn quoted(alloc: Global, text: &[u8]) -> Result<Bytes, OutOfMemory>
 
 /// The text of a value.
 fn text_of(alloc: Global, value: &Value) -> Result<String, OutOfMemory>
-    ensures text { IfOk result (λ s. has_float (view value.now) ≡ false → string_bytes s ≡ compact_text (view value.now)) }
-    ensures printed { IfOk result (λ s. depth (view value.now) ≤ max_depth → IsPrinted (string_bytes s) (view value.now)) }
+    ensures text { IfOk result (λ s. has_float (view value.now) ≡ false → string_bytes s
+        ≡ compact_text (view value.now)) }
+    ensures printed { IfOk result (λ s. depth (view value.now) ≤ max_depth
+        → IsPrinted (string_bytes s) (view value.now)) }
 {
     Ok(value.to_string(alloc)?)
 }
@@ -94,7 +96,8 @@ fn print_call(
     id: &Value,
     out: &mut Bytes,
 ) -> Result<(), OutOfMemory>
-    ensures ok { OnOk result (has_float (called_json method.now (view params.now) (view id.now)) ≡ false
+    ensures ok { OnOk result (has_float (called_json method.now (view params.now) (view id.now))
+        ≡ false
         → out.new ≡ out.old ++ compact_text (called_json method.now (view params.now) (view id.now))) }
     ensures err { OnErr result (out.new ≡ out.old) }
     ensures whole { OnOk result (depth (called_json method.now (view params.now) (view id.now)) ≤ 64
@@ -122,10 +125,12 @@ fn print_response(
     id: &Value,
     out: &mut Bytes,
 ) -> Result<(), OutOfMemory>
-    ensures ok { OnOk result (has_float (answer_json (view outcome.now) (view error.now) (view id.now)) ≡ false
+    ensures ok { OnOk result (has_float
+        (answer_json (view outcome.now) (view error.now) (view id.now)) ≡ false
         → out.new ≡ out.old ++ compact_text (answer_json (view outcome.now) (view error.now) (view id.now))) }
     ensures err { OnErr result (out.new ≡ out.old) }
-    ensures whole { OnOk result (depth (answer_json (view outcome.now) (view error.now) (view id.now)) ≤ 64
+    ensures whole { OnOk result (depth
+        (answer_json (view outcome.now) (view error.now) (view id.now)) ≤ 64
         → AppendsWhole out.old out.new (answer_json (view outcome.now) (view error.now) (view id.now))) }
 {
     let error = text_of(alloc, error)?;
@@ -145,14 +150,17 @@ fn print_response(
 /// Appends a message without spaces, its keys in the order of their bytes. What is appended is a whole text that says the
 /// message, where there is one. Where memory is wanting, nothing is appended.
 pub fn print(alloc: Global, message: &Message, out: &mut Bytes) -> Result<(), OutOfMemory>
-    ensures ok { OnOk result (has_float (message_json (said message.now)) ≡ false → out.new ≡ out.old ++ message_text (said message.now)) }
+    ensures ok { OnOk result (has_float (message_json (said message.now)) ≡ false → out.new
+        ≡ out.old ++ message_text (said message.now)) }
     ensures err { OnErr result (out.new ≡ out.old) }
 
     // A message that some whole text says is said by what is appended. It has no fraction.
-    ensures told { OnOk result (IsTold (said message.now) → AppendsTelling out.old out.new (said message.now)) }
+    ensures told { OnOk result (IsTold (said message.now)
+        → AppendsTelling out.old out.new (said message.now)) }
 
     // Of each message, with fractions too, what is appended is read as its value.
-    ensures whole { OnOk result (depth (message_json (said message.now)) ≤ 64 → AppendsWhole out.old out.new (message_json (said message.now))) }
+    ensures whole { OnOk result (depth (message_json (said message.now)) ≤ 64
+        → AppendsWhole out.old out.new (message_json (said message.now))) }
 {
     match message {
         Message::Request { method, params, id } => print_call(alloc, method, params, id, out),

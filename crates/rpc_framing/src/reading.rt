@@ -141,7 +141,8 @@ pub(crate) enum Front {
 
 /// What a whole text says.
 fn read_front(alloc: Global, text: &[u8]) -> Result<Front, OutOfMemory>
-    ensures front { IfOk result (λ f. seen_front f ≡ read_front (length text.now) (reading text.now)) }
+    ensures front { IfOk result (λ f. seen_front f
+        ≡ read_front (length text.now) (reading text.now)) }
     ensures open { IfOk result (λ f. IfWaiting f (λ _. ⊥)) }
     ensures within { IfOk result (λ f. IfText f (λ n. n ≤ length text.now)) }
 {
@@ -164,7 +165,8 @@ fn text_front(
 ) -> Result<Front, OutOfMemory>
     requires scanned { IsScanned limit text.now count cursor }
     ensures front { IfOk result (λ f. seen_front f ≡ text_front text.now (end_of limit text.now)) }
-    ensures open { IfOk result (λ f. IfWaiting f (λ c. IsScanned limit text.now (length text.now) c)) }
+    ensures open { IfOk result (λ f. IfWaiting f
+        (λ c. IsScanned limit text.now (length text.now) c)) }
     ensures within { IfOk result (λ f. IfText f (λ n. n ≤ length text.now)) }
 {
     match scan(limit, text, count, cursor) {

@@ -15,6 +15,8 @@ use Rattle.vtep_schema.specs.declared.Column.{Column}
 use Rattle.vtep_schema.specs.Tables.{columns_of, same_column}
 use Rattle.vtep_rows.specs.Row.{Contents, filled_row}
 use Rattle.vtep_rows.specs.Rows.{Rows as AllRows, row_at, next_id, inserted, replaced, removed, last_number}
+use Rattle.transact_profile.specs.declared.effects.Edit.{Edit}
+use Rattle.transact_profile.specs.declared.effects.Edit.TheVariants.{Write, Mutate}
 use Rattle.transact_profile.specs.declared.operations.Field.{Field}
 use Rattle.transact_profile.specs.declared.operations.Field.TheVariants as field
 use Rattle.transact_profile.specs.declared.operations.Until.{Until}
@@ -80,6 +82,11 @@ abbrev pub select : Table → List Condition → Option (List Field) → AllRows
 select t cs columns r = Rows (list (map (found r t (selected_fields t columns)) (selected t cs r)))
 
 -- ---- update and mutate
+
+-- a row with the values written, or with the mutations done
+abbrev pub changed : Edit → Contents → Reading Contents
+changed (Write values) = λ row. updated row values.now
+changed (Mutate mutations) = λ row. mutated row mutations.now
 
 abbrev pub changed_at : Table → ℕ → (Contents → Reading Contents) → Option Contents → AllRows → Reading AllRows
 changed_at t id change None r = Ok r
@@ -151,11 +158,14 @@ wait t cs columns until rows r =
 abbrev pub select_step : Table → List Condition → Option (List Field) → AllRows → Step
 select_step t cs columns r = Ok (select t cs columns r, r)
 
+unfoldable pub change_step : Table → List Condition → (Contents → Reading Contents) → AllRows → Step
+change_step t cs f r = change t f (selected t cs r) r
+
 unfoldable pub update_step : Table → List Condition → List (Column × Datum) → AllRows → Step
-update_step t cs values r = change t (λ row. updated row values) (selected t cs r) r
+update_step t cs values r = change_step t cs (λ row. updated row values) r
 
 unfoldable pub mutate_step : Table → List Condition → List Mutation → AllRows → Step
-mutate_step t cs ms r = change t (λ row. mutated row ms) (selected t cs r) r
+mutate_step t cs ms r = change_step t cs (λ row. mutated row ms) r
 
 abbrev pub delete_step : Table → List Condition → AllRows → Step
 delete_step t cs r = Ok (delete t (selected t cs r) r)

@@ -1,5 +1,6 @@
 -- Readings that give a value or the word that refuses it.
 use Rattle.std.specs.Prelude.{◌≡◌, Bool, true, false, if◌then◌else◌, List, [], ◌∷◌, ◌++◌, Option, Some, None, Result, Ok, Err}
+use Rattle.vtep_base.specs.Answers.{OrMemory}
 use Rattle.vtep_base.specs.declared.words.Word.{Word}
 use Rattle.transact_profile.specs.declared.faults.Fault.{Fault}
 use Rattle.transact_profile.specs.declared.faults.Fault.TheVariants.{OutOfMemory, Refused}
@@ -37,15 +38,15 @@ each f = each_from f []
 
 -- ---- what calls give of a reading
 
-abbrev pub IsFault : {A : Type 0} → Fault → Reading A → Type 0
-IsFault OutOfMemory meant = Unit {0}
-IsFault (Refused w) meant = meant ≡ Err w
+abbrev pub refusal_of : Fault → Option Word
+refusal_of OutOfMemory = None
+refusal_of (Refused w) = Some w
 
 -- the value that is meant as it is seen, the word that is meant, or no memory
 abbrev pub ReadsAs : {A B : Type 0} → (A → B) → Result A Fault → Reading B → Type 0
 ReadsAs seen (Ok a) meant = meant ≡ Ok (seen a)
-ReadsAs seen (Err fault) meant = IsFault fault meant
+ReadsAs seen (Err fault) meant = OrMemory (refusal_of fault) (λ w. meant ≡ Err w)
 
 abbrev pub Reads : {A : Type 0} → Result A Fault → Reading A → Type 0
 Reads (Ok a) meant = meant ≡ Ok a
-Reads (Err fault) meant = IsFault fault meant
+Reads (Err fault) meant = OrMemory (refusal_of fault) (λ w. meant ≡ Err w)

@@ -7,9 +7,8 @@ ghost use Rattle.vtep_rows.specs.Rows.{row_at};
 ghost use Rattle.transact_profile.specs.Refusing.{Reads, ReadsAs, given};
 ghost use Rattle.transact_profile.specs.Operations.{waited_fields};
 ghost use Rattle.transact_profile.specs.Conditions.{selected, resolved_cells, resolved_conditions, resolved_mutations, resolved_rows};
-ghost use Rattle.transact_profile.specs.Mutations.{mutated, updated};
 ghost use Rattle.transact_profile.specs.Finish.{seen};
-ghost use Rattle.transact_profile.specs.Meaning.{insert, select, changed_at, change_each, change, remove_each, delete, select_step, update_step, mutate_step, delete_step, same_rows, wait, run_op};
+ghost use Rattle.transact_profile.specs.Meaning.{insert, select, changed_at, change_each, change, changed, change_step, remove_each, delete, select_step, update_step, mutate_step, delete_step, same_rows, wait, run_op};
 
 use crate::faults::Fault;
 use crate::found::selected_rows;
@@ -55,66 +54,55 @@ fn insert(
     }
 }
 
-fn update_at(
-    alloc: Global,
-    rows: &mut Rows,
-    table: Table,
-    id: RowId,
-    values: &[(Column, Datum)],
-) -> Result<(), Fault>
-    ensures { ReadsAs (λ done. rows.new) result (changed_at table id (λ row. updated row values.now) (row_at rows.old (table, id)) rows.old) }
-{
-    let Some(row) = rows.get(table, id) else {
-        return Ok(());
-    };
-    let new = updated(alloc, row, values)?;
-    rows.replace(table, id, new)?;
-    Ok(())
+/// What is done to a row.
+#[derive(Clone, Copy)]
+pub(crate) enum Edit<'a> {
+    /// The values are written.
+    Write(&'a [(Column, Datum)]),
+    /// The mutations are done in order.
+    Mutate(&'a [Mutation]),
 }
 
-fn update_each(
-    alloc: Global,
-    rows: &mut Rows,
-    table: Table,
-    values: &[(Column, Datum)],
-    ids: &[RowId],
-) -> Result<(), Fault>
-    ensures { ReadsAs (λ done. rows.new) result (change_each table (λ row. updated row values.now) ids.now rows.old) }
+fn changed(alloc: Global, row: &Row, edit: Edit<'_>) -> Result<Row, Fault>
+    ensures value { Reads result (changed edit.entry row.now) }
+    ensures table { IfOk result (λ new. new.table ≡ row.now.table) }
 {
-    'ids: for id in ids {
-        update_at(alloc, rows, table, *id, values)?;
+    match edit {
+        Edit::Write(values) => updated(alloc, row, values),
+        Edit::Mutate(mutations) => mutated(alloc, row, mutations),
     }
-    Ok(())
 }
 
-fn mutate_at(
+fn change_at(
     alloc: Global,
     rows: &mut Rows,
     table: Table,
     id: RowId,
-    mutations: &[Mutation],
+    edit: Edit<'_>,
 ) -> Result<(), Fault>
-    ensures { ReadsAs (λ done. rows.new) result (changed_at table id (λ row. mutated row mutations.now) (row_at rows.old (table, id)) rows.old) }
+    ensures { ReadsAs (λ done. rows.new) result
+        (changed_at table id (changed edit.entry) (row_at rows.old (table, id)) rows.old) }
 {
     let Some(row) = rows.get(table, id) else {
         return Ok(());
     };
-    let new = mutated(alloc, row, mutations)?;
+    let new = changed(alloc, row, edit)?;
     rows.replace(table, id, new)?;
     Ok(())
 }
 
-fn mutate_each(
+fn change_each(
     alloc: Global,
     rows: &mut Rows,
     table: Table,
-    mutations: &[Mutation],
+    edit: Edit<'_>,
     ids: &[RowId],
 ) -> Result<(), Fault>
-    ensures { ReadsAs (λ done. rows.new) result (change_each table (λ row. mutated row mutations.now) ids.now rows.old) }
+    ensures { ReadsAs (λ done. rows.new) result
+        (change_each table (changed edit.entry) ids.now rows.old) }
 {
     'ids: for id in ids {
-        mutate_at(alloc, rows, table, *id, mutations)?;
+        change_at(alloc, rows, table, *id, edit)?;
     }
     Ok(())
 }
@@ -128,31 +116,33 @@ fn remove_each(rows: &mut Rows, table: Table, ids: &[RowId])
 }
 
 #[tactic(auto, unfolding(crate::specs::Meaning::change))]
-fn count_updated(
+fn count_changed(
     alloc: Global,
     rows: &mut Rows,
     table: Table,
-    values: &[(Column, Datum)],
+    edit: Edit<'_>,
     ids: &[RowId],
 ) -> Result<OpResult, Fault>
-    ensures { ReadsAs (λ reply. (seen reply, rows.new)) result (change table (λ row. updated row values.now) ids.now rows.old) }
+    ensures { ReadsAs (λ reply. (seen reply, rows.new)) result
+        (change table (changed edit.entry) ids.now rows.old) }
 {
-    update_each(alloc, rows, table, values, ids)?;
+    change_each(alloc, rows, table, edit, ids)?;
     Ok(OpResult::Count(ids.len() as u64))
 }
 
-#[tactic(auto, unfolding(crate::specs::Meaning::change))]
-fn count_mutated(
+#[tactic(auto, unfolding(crate::specs::Meaning::change_step))]
+fn change(
     alloc: Global,
     rows: &mut Rows,
     table: Table,
-    mutations: &[Mutation],
-    ids: &[RowId],
+    conditions: &[Condition],
+    edit: Edit<'_>,
 ) -> Result<OpResult, Fault>
-    ensures { ReadsAs (λ reply. (seen reply, rows.new)) result (change table (λ row. mutated row mutations.now) ids.now rows.old) }
+    ensures { ReadsAs (λ reply. (seen reply, rows.new)) result
+        (change_step table conditions.now (changed edit.entry) rows.old) }
 {
-    mutate_each(alloc, rows, table, mutations, ids)?;
-    Ok(OpResult::Count(ids.len() as u64))
+    let ids = selected(alloc, rows, table, conditions)?;
+    count_changed(alloc, rows, table, edit, ids.as_slice())
 }
 
 #[tactic(auto, unfolding(crate::specs::Meaning::update_step))]
@@ -163,10 +153,10 @@ fn update(
     conditions: &[Condition],
     values: &[(Column, Datum)],
 ) -> Result<OpResult, Fault>
-    ensures { ReadsAs (λ reply. (seen reply, rows.new)) result (update_step table conditions.now values.now rows.old) }
+    ensures { ReadsAs (λ reply. (seen reply, rows.new)) result
+        (update_step table conditions.now values.now rows.old) }
 {
-    let ids = selected(alloc, rows, table, conditions)?;
-    count_updated(alloc, rows, table, values, ids.as_slice())
+    change(alloc, rows, table, conditions, Edit::Write(values))
 }
 
 #[tactic(auto, unfolding(crate::specs::Meaning::mutate_step))]
@@ -177,10 +167,10 @@ fn mutate(
     conditions: &[Condition],
     mutations: &[Mutation],
 ) -> Result<OpResult, Fault>
-    ensures { ReadsAs (λ reply. (seen reply, rows.new)) result (mutate_step table conditions.now mutations.now rows.old) }
+    ensures { ReadsAs (λ reply. (seen reply, rows.new)) result
+        (mutate_step table conditions.now mutations.now rows.old) }
 {
-    let ids = selected(alloc, rows, table, conditions)?;
-    count_mutated(alloc, rows, table, mutations, ids.as_slice())
+    change(alloc, rows, table, conditions, Edit::Mutate(mutations))
 }
 
 fn delete(
@@ -189,7 +179,8 @@ fn delete(
     table: Table,
     conditions: &[Condition],
 ) -> Result<OpResult, OutOfMemory>
-    ensures { IfOk result (λ reply. (seen reply, rows.new) ≡ delete table (selected table conditions.now rows.old) rows.old) }
+    ensures { IfOk result (λ reply. (seen reply, rows.new)
+        ≡ delete table (selected table conditions.now rows.old) rows.old) }
 {
     let ids = selected(alloc, rows, table, conditions)?;
     remove_each(rows, table, ids.as_slice());
@@ -218,7 +209,8 @@ fn is_same(
     ids: &[RowId],
     given: &[List<(Field, Datum)>],
 ) -> Result<bool, OutOfMemory>
-    ensures { IfOk result (λ b. b ≡ same_rows (waited_fields table columns.now) rows.now table ids.now given.now) }
+    ensures { IfOk result (λ b. b ≡ same_rows (waited_fields table columns.now) rows.now table
+        ids.now given.now) }
 {
     match columns {
         Some(fields) => same_rows(alloc, fields.as_slice(), rows, table, ids, given),
@@ -237,7 +229,9 @@ fn update_named(
     conditions: &List<Condition>,
     row: &List<(Column, Datum)>,
 ) -> Result<OpResult, Fault>
-    ensures { ReadsAs (λ reply. (seen reply, rows.new)) result (update_step table (resolved_conditions names.now conditions.now) (resolved_cells names.now row.now) rows.old) }
+    ensures { ReadsAs (λ reply. (seen reply, rows.new)) result
+        (update_step table (resolved_conditions names.now conditions.now)
+        (resolved_cells names.now row.now) rows.old) }
 {
     let conditions = resolved_conditions(alloc, names, conditions.as_slice())?;
     let row = resolved_row(alloc, names, row.as_slice())?;
@@ -252,7 +246,9 @@ fn mutate_named(
     conditions: &List<Condition>,
     mutations: &List<Mutation>,
 ) -> Result<OpResult, Fault>
-    ensures { ReadsAs (λ reply. (seen reply, rows.new)) result (mutate_step table (resolved_conditions names.now conditions.now) (resolved_mutations names.now mutations.now) rows.old) }
+    ensures { ReadsAs (λ reply. (seen reply, rows.new)) result
+        (mutate_step table (resolved_conditions names.now conditions.now)
+        (resolved_mutations names.now mutations.now) rows.old) }
 {
     let conditions = resolved_conditions(alloc, names, conditions.as_slice())?;
     let mutations = resolved_mutations(alloc, names, mutations.as_slice())?;
@@ -272,7 +268,8 @@ fn insert_named(
     table: Table,
     row: &[(Column, Datum)],
 ) -> Result<OpResult, Fault>
-    ensures { ReadsAs (λ reply. (seen reply, rows.new)) result (insert table (resolved_cells names.now row.now) rows.old) }
+    ensures { ReadsAs (λ reply. (seen reply, rows.new)) result
+        (insert table (resolved_cells names.now row.now) rows.old) }
 {
     let row = resolved_row(alloc, names, row)?;
     insert(alloc, rows, table, row)
@@ -286,7 +283,8 @@ fn select_named(
     conditions: &List<Condition>,
     columns: &Option<List<Field>>,
 ) -> Result<OpResult, Fault>
-    ensures { ReadsAs (λ reply. (seen reply, rows.now)) result (select_step table (resolved_conditions names.now conditions.now) columns.now rows.now) }
+    ensures { ReadsAs (λ reply. (seen reply, rows.now)) result
+        (select_step table (resolved_conditions names.now conditions.now) columns.now rows.now) }
 {
     let conditions = resolved_conditions(alloc, names, conditions.as_slice())?;
     Ok(select(alloc, rows, table, conditions.as_slice(), columns)?)
@@ -299,7 +297,8 @@ fn delete_named(
     table: Table,
     conditions: &List<Condition>,
 ) -> Result<OpResult, Fault>
-    ensures { ReadsAs (λ reply. (seen reply, rows.new)) result (delete_step table (resolved_conditions names.now conditions.now) rows.old) }
+    ensures { ReadsAs (λ reply. (seen reply, rows.new)) result
+        (delete_step table (resolved_conditions names.now conditions.now) rows.old) }
 {
     let conditions = resolved_conditions(alloc, names, conditions.as_slice())?;
     Ok(delete(alloc, rows, table, conditions.as_slice())?)
@@ -315,7 +314,10 @@ fn is_same_named(
     columns: &Option<List<Field>>,
     given: &List<List<(Field, Datum)>>,
 ) -> Result<bool, OutOfMemory>
-    ensures { IfOk result (λ same. same ≡ same_rows (waited_fields table columns.now) rows.now table (selected table (resolved_conditions names.now conditions.now) rows.now) (resolved_rows names.now given.now)) }
+    ensures { IfOk result (λ same. same
+        ≡ same_rows (waited_fields table columns.now) rows.now table
+        (selected table (resolved_conditions names.now conditions.now) rows.now)
+        (resolved_rows names.now given.now)) }
 {
     let conditions = resolved_conditions(alloc, names, conditions.as_slice())?;
     let given = resolved_rows(alloc, names, given.as_slice())?;

@@ -37,7 +37,8 @@ fn put_value(
     column: Column,
     members: &mut Map<String, Value>,
 ) -> Result<(), OutOfMemory>
-    ensures { OnOk result (members_view members.new.entries ≡ with_cell (Of column) (value_of row.now column) (members_view members.old.entries)) }
+    ensures { OnOk result (members_view members.new.entries
+        ≡ with_cell (Of column) (value_of row.now column) (members_view members.old.entries)) }
 {
     let Some(datum) = value_of(row, column) else {
         return Ok(());
@@ -54,7 +55,8 @@ fn put_cell(
     field: Field,
     members: &mut Map<String, Value>,
 ) -> Result<(), OutOfMemory>
-    ensures { OnOk result (members_view members.new.entries ≡ with_cell field (cell_of id row.now field) (members_view members.old.entries)) }
+    ensures { OnOk result (members_view members.new.entries
+        ≡ with_cell field (cell_of id row.now field) (members_view members.old.entries)) }
 {
     match field {
         Field::Id => {
@@ -128,7 +130,8 @@ pub(crate) fn selected_rows(
     columns: &Option<List<Field>>,
     ids: &[RowId],
 ) -> Result<Value, OutOfMemory>
-    ensures { IfOk result (λ v. view v ≡ list (map (found rows.now table (selected_fields table columns.now)) ids.now)) }
+    ensures { IfOk result (λ v. view v
+        ≡ list (map (found rows.now table (selected_fields table columns.now)) ids.now)) }
 {
     match columns {
         Some(fields) => rows_json(alloc, rows, table, fields.as_slice(), ids),

@@ -26,6 +26,3 @@ pub use outcomes::{OpResult, Outcome};
 pub use results::finish;
 pub use running::transact;
 pub use transaction::read_ops;
-
-#[cfg(test)]
-mod tests;

@@ -37,7 +37,8 @@ pub(crate) fn text_member<'v>(name: &str, operation: &'v Value) -> Result<&'v st
 }
 
 pub(crate) fn optional_text<'v>(name: &str, operation: &'v Value) -> Result<Option<&'v str>, Fault>
-    ensures { ReadsAs (option_map (λ s. s.now)) result (optional as_str name.now (view operation.now)) }
+    ensures { ReadsAs (option_map (λ s. s.now)) result
+        (optional as_str name.now (view operation.now)) }
 {
     let Some(member) = operation.get(name) else {
         return Ok(None);
@@ -64,7 +65,8 @@ pub(crate) fn object_member<'v>(
     name: &str,
     operation: &'v Value,
 ) -> Result<&'v Map<String, Value>, Fault>
-    ensures { ReadsAs (λ m. members_of (members_view m.now.entries)) result (member members_in name.now (view operation.now)) }
+    ensures { ReadsAs (λ m. members_of (members_view m.now.entries)) result
+        (member members_in name.now (view operation.now)) }
 {
     let Some(member) = operation.get(name) else {
         return Err(SYNTAX);
@@ -142,7 +144,8 @@ fn triples(values: &[Value]) -> bool
 }
 
 fn triple_in(items: &[Value]) -> Option<(&str, &str, &Value)>
-    ensures { option_map (λ t. (t.0.now, t.1.now, view t.2.now)) result ≡ triple_in (map view items.now) }
+    ensures { option_map (λ t. (t.0.now, t.1.now, view t.2.now)) result
+        ≡ triple_in (map view items.now) }
 {
     let [column, function, value] = items else {
         return None;
@@ -152,7 +155,8 @@ fn triple_in(items: &[Value]) -> Option<(&str, &str, &Value)>
 
 /// A column, a function or a mutator, and a value.
 pub(crate) fn triple(value: &Value) -> Option<(&str, &str, &Value)>
-    ensures { option_map (λ t. (t.0.now, t.1.now, view t.2.now)) result ≡ triple_of (view value.now) }
+    ensures { option_map (λ t. (t.0.now, t.1.now, view t.2.now)) result
+        ≡ triple_of (view value.now) }
 {
     triple_in(items(value)?)
 }
@@ -162,7 +166,8 @@ pub(crate) fn optional_texts<'v>(
     name: &str,
     operation: &'v Value,
 ) -> Result<Option<&'v [Value]>, Fault>
-    ensures { ReadsAs (option_map (λ s. map view s.now)) result (optional (items_that is_text) name.now (view operation.now)) }
+    ensures { ReadsAs (option_map (λ s. map view s.now)) result
+        (optional (items_that is_text) name.now (view operation.now)) }
 {
     let Some(member) = operation.get(name) else {
         return Ok(None);
@@ -177,7 +182,8 @@ pub(crate) fn optional_texts<'v>(
 }
 
 pub(crate) fn objects_member<'v>(name: &str, operation: &'v Value) -> Result<&'v [Value], Fault>
-    ensures { ReadsAs (λ s. map view s.now) result (member (items_that is_object) name.now (view operation.now)) }
+    ensures { ReadsAs (λ s. map view s.now) result
+        (member (items_that is_object) name.now (view operation.now)) }
 {
     let Some(member) = operation.get(name) else {
         return Err(SYNTAX);
@@ -193,7 +199,8 @@ pub(crate) fn objects_member<'v>(name: &str, operation: &'v Value) -> Result<&'v
 
 /// The elements of `where` or `mutations`.
 pub(crate) fn triples_member<'v>(name: &str, operation: &'v Value) -> Result<&'v [Value], Fault>
-    ensures { ReadsAs (λ s. map view s.now) result (member (items_that is_triple) name.now (view operation.now)) }
+    ensures { ReadsAs (λ s. map view s.now) result
+        (member (items_that is_triple) name.now (view operation.now)) }
 {
     let Some(member) = operation.get(name) else {
         return Err(SYNTAX);

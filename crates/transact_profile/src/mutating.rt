@@ -25,7 +25,8 @@ fn divides(mutator: Mutator) -> bool
 /// The result, where it has 64 bits.
 fn arithmetic(mutator: Mutator, number: i64, by: i64) -> Option<i64>
     requires { divides mutator && is_zero by ≡ false }
-    ensures { result ≡ (if fits_64 (arithmetic mutator number by) then Some (arithmetic mutator number by) else None) }
+    ensures { result ≡ (if fits_64 (arithmetic mutator number by) then Some
+        (arithmetic mutator number by) else None) }
 {
     match mutator {
         Mutator::Add => number.checked_add(by),

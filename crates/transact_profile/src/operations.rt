@@ -13,7 +13,7 @@ pub enum Field {
     Of(Column),
 }
 
-/// How a condition compares the column with its value.
+/// How a condition compares the column with its value (RFC 7047, section 5.1, `<function>`).
 #[derive(Clone, Copy, Debug, PartialEq, Eq)]
 pub enum Function {
     /// `==`: it is the value.
@@ -22,38 +22,38 @@ pub enum Function {
     Unequal,
     /// `<`: its number is less than that of the value.
     Less,
-    /// `<=`
+    /// `<=`: its number is at most that of the value.
     AtMost,
-    /// `>=`
+    /// `>=`: its number is at least that of the value.
     AtLeast,
-    /// `>`
+    /// `>`: its number is more than that of the value.
     More,
-    /// Every atom or pair of the value is in the column.
+    /// `includes`: every atom or pair of the value is in the column.
     Includes,
-    /// No atom and no pair of the value is in the column.
+    /// `excludes`: no atom and no pair of the value is in the column.
     Excludes,
 }
 
-/// How a mutation changes the column by its value.
+/// How a mutation changes the column by its value (RFC 7047, section 5.1, `<mutator>`).
 #[derive(Clone, Copy, Debug, PartialEq, Eq)]
 pub enum Mutator {
-    /// `+=`
+    /// `+=`, on each number of the column, as the next four.
     Add,
-    /// `-=`
+    /// `-=`, the value from the column.
     Subtract,
-    /// `*=`
+    /// `*=`.
     Multiply,
-    /// `/=`, towards zero.
+    /// `/=`, the column by the value, towards zero.
     Divide,
     /// `%=`, with the sign of the dividend.
     Remainder,
-    /// The atoms of the value, or the pairs of the value whose keys are not there, are put in.
+    /// `insert`: the atoms of the value, or the pairs of the value whose keys are not there, are put in.
     Insert,
-    /// The atoms or pairs of the value, or the pairs with these keys, are taken out.
+    /// `delete`: the atoms or pairs of the value, or the pairs with these keys, are taken out.
     Delete,
 }
 
-/// What a wait asks of the matched rows and of those that it gives.
+/// What a wait asks of the matched rows and of those that it gives (RFC 7047, section 5.2.6, `until`).
 #[derive(Clone, Copy, Debug, PartialEq, Eq)]
 pub enum Until {
     /// `==`: they are the same set.
@@ -62,7 +62,7 @@ pub enum Until {
     Different,
 }
 
-/// One element of the member `where`.
+/// One element of the member `where` (RFC 7047, section 5.1, `<condition>`).
 #[derive(Drop)]
 pub struct Condition {
     /// What is compared.
@@ -73,7 +73,7 @@ pub struct Condition {
     pub value: Datum,
 }
 
-/// One element of the member `mutations`.
+/// One element of the member `mutations` (RFC 7047, section 5.1, `<mutation>`).
 #[derive(Drop)]
 pub struct Mutation {
     /// What is changed.
@@ -84,41 +84,42 @@ pub struct Mutation {
     pub value: Datum,
 }
 
-/// An operation. A name in a value stands for a row that the transaction inserts.
+/// An operation (RFC 7047, section 5.2). A name in a value stands for a row that the transaction inserts.
 #[derive(Drop)]
 pub enum Op {
-    /// Makes a row of the table; a column that is not given has its default.
+    /// Makes a row of the table; a column that is not given has its default (section 5.2.1).
     Insert {
         table: Table,
         row: List<(Column, Datum)>,
         /// The member `uuid-name`.
         name: Option<Txt>,
     },
-    /// Gives the rows that meet the conditions.
+    /// Gives the rows that meet the conditions, cut to the columns (section 5.2.2).
     Select {
         table: Table,
         conditions: List<Condition>,
         /// None stands for `_uuid` and all columns.
         columns: Option<List<Field>>,
     },
-    /// Writes the values into each row that meets the conditions.
+    /// Writes the values into each row that meets the conditions (section 5.2.3).
     Update {
         table: Table,
         conditions: List<Condition>,
         row: List<(Column, Datum)>,
     },
-    /// Does the mutations in order in each such row.
+    /// Does the mutations in order in each such row (section 5.2.4).
     Mutate {
         table: Table,
         conditions: List<Condition>,
         mutations: List<Mutation>,
     },
-    /// Removes each such row.
+    /// Removes each such row (section 5.2.5).
     Delete {
         table: Table,
         conditions: List<Condition>,
     },
-    /// Goes by where such rows, cut to the columns, are those that are given, or where they are not.
+    /// Goes by where such rows, cut to the columns, are those that are given, or where they are not (section 5.2.6). It never
+    /// waits: a timeout is not kept.
     Wait {
         table: Table,
         conditions: List<Condition>,
@@ -127,20 +128,20 @@ pub enum Op {
         until: Until,
         rows: List<List<(Field, Datum)>>,
     },
-    /// Does nothing; it fails where it is durable.
+    /// Does nothing; it fails where it is durable (section 5.2.7).
     Commit {
         durable: bool,
     },
-    /// Fails.
+    /// Fails (section 5.2.8).
     Abort,
-    /// Does nothing.
+    /// Does nothing (section 5.2.9).
     Comment,
 }
 
 /// Why an operation can't be read.
 #[derive(Clone, Copy, Debug, PartialEq, Eq)]
 pub struct OpFault {
-    /// The place of the operation, from 0.
+    /// The place of the operation among the elements of the params after the first, from 0.
     pub index: u64,
     /// Its first fault.
     pub word: Word,
@@ -155,6 +156,6 @@ pub struct Ops {
     pub names: List<Option<Txt>>,
     /// The first operation that can't be read.
     pub fault: Option<OpFault>,
-    /// The number of all operations.
+    /// The number of all operations, those behind the fault too.
     pub count: u64,
 }

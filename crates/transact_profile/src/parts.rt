@@ -254,7 +254,8 @@ fn waited_cells(
     table: Table,
     row: &Map<String, Value>,
 ) -> Result<List<(Field, Datum)>, Fault>
-    ensures { Reads result (each (waited_cell known.now table) (members_of (members_view row.now.entries))) }
+    ensures { Reads result (each (waited_cell known.now table)
+        (members_of (members_view row.now.entries))) }
 {
     let mut cells = List::new(alloc);
     'row: for (name, value) in row.iter() {
@@ -305,7 +306,8 @@ pub(crate) fn waited_rows(
     columns: &Option<List<Field>>,
     values: &[Value],
 ) -> Result<List<List<(Field, Datum)>>, Fault>
-    ensures { Reads result (waited_rows known.now table (waited_fields table columns.now) (map view values.now)) }
+    ensures { Reads result (waited_rows known.now table (waited_fields table columns.now)
+        (map view values.now)) }
 {
     match columns {
         Some(fields) => rows_with(alloc, known, table, fields.as_slice(), values),

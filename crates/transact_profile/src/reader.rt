@@ -65,7 +65,8 @@ fn insert_into(
     row: &Map<String, Value>,
     name: Option<&str>,
 ) -> Result<Op, Fault>
-    ensures { Reads result (insert_into known.now earlier.now table (members_of (members_view row.now.entries)) (option_map (λ s. s.now) name.entry)) }
+    ensures { Reads result (insert_into known.now earlier.now table
+        (members_of (members_view row.now.entries)) (option_map (λ s. s.now) name.entry)) }
 {
     if !row_known(table, row) {
         return Err(UNKNOWN_COLUMN);
@@ -102,7 +103,8 @@ fn select_from(
     triples: &[Value],
     columns: Option<&[Value]>,
 ) -> Result<Op, Fault>
-    ensures { Reads result (select_from known.now table (map view triples.now) (option_map (λ s. map view s.now) columns.entry)) }
+    ensures { Reads result (select_from known.now table (map view triples.now)
+        (option_map (λ s. map view s.now) columns.entry)) }
 {
     if !(triples_known(table, triples) && columns_known(table, columns)) {
         return Err(UNKNOWN_COLUMN);
@@ -150,7 +152,8 @@ fn update_in(
     triples: &[Value],
     row: &Map<String, Value>,
 ) -> Result<Op, Fault>
-    ensures { Reads result (update_in known.now table (map view triples.now) (members_of (members_view row.now.entries))) }
+    ensures { Reads result (update_in known.now table (map view triples.now)
+        (members_of (members_view row.now.entries))) }
 {
     if !(row_known(table, row) && triples_known(table, triples)) {
         return Err(UNKNOWN_COLUMN);
@@ -197,7 +200,8 @@ fn mutate_in(
     triples: &[Value],
     changes: &[Value],
 ) -> Result<Op, Fault>
-    ensures { Reads result (mutate_in known.now table (map view triples.now) (map view changes.now)) }
+    ensures { Reads result (mutate_in known.now table (map view triples.now)
+        (map view changes.now)) }
 {
     if !(triples_known(table, triples) && triples_known(table, changes)) {
         return Err(UNKNOWN_COLUMN);
@@ -251,7 +255,8 @@ fn wait_in(
     until: Until,
     rows: &[Value],
 ) -> Result<Op, Fault>
-    ensures { Reads result (wait_in known.now table (map view triples.now) (option_map (λ s. map view s.now) columns.entry) until (map view rows.now)) }
+    ensures { Reads result (wait_in known.now table (map view triples.now)
+        (option_map (λ s. map view s.now) columns.entry) until (map view rows.now)) }
 {
     if !(triples_known(table, triples)
         && columns_known(table, columns)

@@ -68,7 +68,8 @@ fn add_breach(
     items: &mut Vec<Value>,
     breach: Option<Rule>,
 ) -> Result<(), OutOfMemory>
-    ensures { OnOk result (map view items.new.items ≡ map view items.old.items ++ breach_json breach) }
+    ensures { OnOk result (map view items.new.items ≡ map view items.old.items
+        ++ breach_json breach) }
 {
     if let Some(rule) = breach {
         items.push(error_json(alloc, breach_word(rule))?)?;

@@ -20,7 +20,8 @@ fn names_of(
     rows: &Rows,
     names: &[Option<Txt>],
 ) -> Result<List<(Txt, RowId)>, OutOfMemory>
-    ensures { IfOk result (λ all. all ≡ names_from rows.now.made (rows.now.counter + 1) [] names.now) }
+    ensures { IfOk result (λ all. all
+        ≡ names_from rows.now.made (rows.now.counter + 1) [] names.now) }
 {
     let mut all = List::new(alloc);
     let mut number = rows.counter() + 1;
@@ -46,9 +47,12 @@ fn run_all(
     rows: &mut Rows,
     ops: &[Op],
 ) -> Result<Ran, OutOfMemory>
-    ensures results { IfOk result (λ ran. map seen ran.results ≡ (run_from names.now [] rows.old ops.now).results) }
-    ensures stopped { IfOk result (λ ran. ran.stopped ≡ (run_from names.now [] rows.old ops.now).stopped) }
-    ensures rows { IfOk result (λ ran. ran.stopped ≡ None → rows.new ≡ (run_from names.now [] rows.old ops.now).rows) }
+    ensures results { IfOk result (λ ran. map seen ran.results
+        ≡ (run_from names.now [] rows.old ops.now).results) }
+    ensures stopped { IfOk result (λ ran. ran.stopped
+        ≡ (run_from names.now [] rows.old ops.now).stopped) }
+    ensures rows { IfOk result (λ ran. ran.stopped ≡ None → rows.new
+        ≡ (run_from names.now [] rows.old ops.now).rows) }
 {
     let mut results = List::new(alloc);
     'ops: for op in ops {
@@ -85,7 +89,8 @@ fn add_nulls(results: &mut List<OpResult>, count: u64) -> Result<(), OutOfMemory
 /// Adds the word of the operation that failed, and nothing for each later one.
 #[tactic(auto, using(crate::proofs::Pushing::failure_pushed))]
 fn add_failure(results: &mut List<OpResult>, word: Word, count: u64) -> Result<(), OutOfMemory>
-    ensures { OnOk result (map seen results.new ≡ failed_results count word (map seen results.old)) }
+    ensures { OnOk result (map seen results.new
+        ≡ failed_results count word (map seen results.old)) }
 {
     results.push(OpResult::Fault(word))?;
     add_nulls(results, count.saturating_sub(results.len() as u64))
@@ -106,7 +111,8 @@ fn add_failure(results: &mut List<OpResult>, word: Word, count: u64) -> Result<(
 ///   not the same set, or are, as it asks.
 /// - `commit` fails with `not supported` where it asks for durability, and `abort` always fails with `aborted`.
 pub fn transact(alloc: Global, rows: &mut Rows, ops: &Ops) -> Result<Outcome, OutOfMemory>
-    ensures results { IfOk result (λ outcome. map seen outcome.results ≡ (means ops.now rows.old).results) }
+    ensures results { IfOk result (λ outcome. map seen outcome.results
+        ≡ (means ops.now rows.old).results) }
     ensures failed { IfOk result (λ outcome. outcome.failed ≡ (means ops.now rows.old).failed) }
     ensures rows { OnOk result (rows.new ≡ (means ops.now rows.old).rows) }
     // A transaction that fails changes nothing.

@@ -112,7 +112,8 @@ pub(crate) fn value_of(row: &Row, column: Column) -> Option<&Datum>
 }
 
 fn column_holds(row: &Row, column: Column, condition: &Condition) -> bool
-    ensures { result ≡ compares_some condition.now.function (value_of row.now column) condition.now.value }
+    ensures { result ≡ compares_some condition.now.function (value_of row.now column)
+        condition.now.value }
 {
     match value_of(row, column) {
         Some(cell) => compares(condition.function, cell, &condition.value),

@@ -64,8 +64,10 @@ struct Reached {
 }
 
 fn front(alloc: Global, known: &Known, operations: &[Value]) -> Result<Reached, OutOfMemory>
-    ensures ops { IfOk result (λ front. front.ops ≡ (front_from known.now [] [] 0 (map view operations.now)).ops) }
-    ensures fault { IfOk result (λ front. front.fault ≡ (front_from known.now [] [] 0 (map view operations.now)).fault) }
+    ensures ops { IfOk result (λ front. front.ops
+        ≡ (front_from known.now [] [] 0 (map view operations.now)).ops) }
+    ensures fault { IfOk result (λ front. front.fault
+        ≡ (front_from known.now [] [] 0 (map view operations.now)).fault) }
 {
     let mut ops = List::new(alloc);
     let mut earlier = List::new(alloc);

@@ -150,7 +150,8 @@ fn all_given(
     ids: &[RowId],
     given: &[List<(Field, Datum)>],
 ) -> Result<bool, OutOfMemory>
-    ensures { IfOk result (λ b. b ≡ list_all (λ id. list_any (is_given_at fields.now rows.now table id) given.now) ids.now) }
+    ensures { IfOk result (λ b. b ≡ list_all
+        (λ id. list_any (is_given_at fields.now rows.now table id) given.now) ids.now) }
 {
     'ids: for id in ids {
         if !row_is_given(alloc, fields, rows, table, *id, given)? {
@@ -168,7 +169,8 @@ fn is_there(
     ids: &[RowId],
     cells: &[(Field, Datum)],
 ) -> Result<bool, OutOfMemory>
-    ensures { IfOk result (λ b. b ≡ list_any (λ id. is_given_at fields.now rows.now table id cells.now) ids.now) }
+    ensures { IfOk result (λ b. b ≡ list_any
+        (λ id. is_given_at fields.now rows.now table id cells.now) ids.now) }
 {
     'ids: for id in ids {
         if is_given_at(alloc, fields, rows, table, *id, cells)? {
@@ -186,7 +188,9 @@ fn all_there(
     ids: &[RowId],
     given: &[List<(Field, Datum)>],
 ) -> Result<bool, OutOfMemory>
-    ensures { IfOk result (λ b. b ≡ list_all (λ cells. list_any (λ id. is_given_at fields.now rows.now table id cells) ids.now) given.now) }
+    ensures { IfOk result (λ b. b ≡ list_all
+        (λ cells. list_any (λ id. is_given_at fields.now rows.now table id cells) ids.now)
+        given.now) }
 {
     'given: for cells in given {
         if !is_there(alloc, fields, rows, table, ids, cells.as_slice())? {

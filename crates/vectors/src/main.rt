@@ -1,25 +1,86 @@
-//! Runs a table of transactions and compares each result array with the one that is wanted.
+//! Runs tables of cases and compares each answer with the one that is wanted.
 //!
-//! The table is the standard input, line by line. `#` begins a comment. `gateway` and `ports` say at which rows the transactions
-//! behind them begin. Every other line is the operations of a transaction, joined by commas, and the line behind it the result
-//! array that they have to give. Where `then` stands before the operations, they go on at the rows that the last ones left.
+//! The tables are the standard input, line by line. `#` begins a comment, and `table NAME` a table. A case is lines that begin with
+//! `> ` and ask, and behind them the lines that are wanted; an empty line, or the next line that asks, ends it. A line that
+//! begins with `+ ` goes on with the line before it, and one with `* COUNT FIRST ` does so COUNT times, with the numbers from
+//! FIRST on. `~` and two hexadecimal digits stand for a byte, `~#` for the number, and `~x` for its three hexadecimal digits.
 #![tactic(auto)]
 
+mod bindings;
+mod cases;
+mod faults;
+mod frames;
+mod lines;
+mod messages;
+mod mirrors;
 mod opening;
-mod table;
+mod packets;
+mod rows;
+mod runner;
+mod schemas;
+mod scripts;
+mod sessions;
+mod texts;
+mod transactions;
+mod values;
 
-use std::io::{BufRead, BufReader};
-use table::{Table, TableFault};
+use cases::Cases;
+use faults::CaseFault;
+use std::alloc::Global;
+use std::io::{self, BufRead, BufReader};
 
-fn main(rt: HostRuntime) -> Result<(), TableFault> {
-    let alloc = rt.alloc();
-    let mut table = Table::new(alloc)?;
-    'lines: for line in BufReader::new(alloc, rt.stdin())?.lines(alloc) {
-        if let Some(difference) = table.take(alloc, line?.as_str())? {
-            println!(rt; "{difference}")?;
-        }
+/// Why the tables are not gone through to their end.
+#[derive(Debug, Drop)]
+enum TablesFault {
+    Case(CaseFault),
+    /// A line is not read, or not written.
+    Outside(io::Error),
+}
+
+impl From<CaseFault> for TablesFault {
+    fn from(fault: CaseFault) -> TablesFault {
+        TablesFault::Case(fault)
     }
-    let held = table.held();
-    println!(rt; "{held} transactions give what is wanted")?;
+}
+
+impl From<io::Error> for TablesFault {
+    fn from(error: io::Error) -> TablesFault {
+        TablesFault::Outside(error)
+    }
+}
+
+/// Takes a line, and says where an answer is not the wanted one.
+fn take_line(
+    rt: &impl Print,
+    alloc: Global,
+    cases: &mut Cases,
+    line: &str,
+) -> Result<(), TablesFault> {
+    if let Some(difference) = cases.take(alloc, line)? {
+        println!(rt; "{difference}")?;
+    }
     Ok(())
+}
+
+/// Goes through all lines, and says how many cases of each table gave what is wanted.
+fn go_through<R: BufRead + Drop>(
+    rt: &impl Print,
+    alloc: Global,
+    input: R,
+    cases: &mut Cases,
+) -> Result<(), TablesFault> {
+    'lines: for line in input.lines(alloc) {
+        take_line(rt, alloc, cases, line?.as_str())?;
+    }
+    take_line(rt, alloc, cases, "")?;
+    let summary = cases.summary()?;
+    println!(rt; "{summary} give what is wanted")?;
+    Ok(())
+}
+
+fn main(rt: HostRuntime) -> Result<(), TablesFault> {
+    let alloc = rt.alloc();
+    let input = BufReader::new(alloc, rt.stdin())?;
+    let mut cases = Cases::new(alloc);
+    go_through(&rt, alloc, input, &mut cases)
 }

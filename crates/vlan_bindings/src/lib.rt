@@ -7,15 +7,13 @@ ghost use Rattle.vtep_base.specs.Maps as maps;
 ghost use Rattle.vlan_bindings.specs.Places.{place_cmp, places_of};
 
 use std::alloc::Global;
-use std::collections::BTreeMap;
-use std::collections::btree_map::Iter;
 use std::marker::Model;
-use vtep_base::{Name, OutOfMemory, RowId, Vlan};
+use vtep_base::{Name, Ordered, OutOfMemory, RowId, Vlan, Walk};
 
 /// A finite map from ports and VLANs to switches, which are named by their rows.
 #[derive(Drop)]
 pub struct Bindings {
-    switches: BTreeMap<(Name, Vlan), RowId>,
+    switches: Ordered<(Name, Vlan), RowId>,
 }
 
 impl Model for Bindings {
@@ -27,7 +25,7 @@ impl Model for Bindings {
 
     ghost coded = { places_code };
 
-    ghost view = { λ b. maps.of_list b.switches.entries };
+    ghost view = { λ b. maps.of_list b.switches };
 }
 
 impl Bindings {
@@ -36,7 +34,7 @@ impl Bindings {
         ensures { result ≡ maps.empty }
     {
         Bindings {
-            switches: BTreeMap::new(alloc),
+            switches: Ordered::new(alloc),
         }
     }
 
@@ -51,7 +49,7 @@ impl Bindings {
         ensures ok { OnOk result (self.new ≡ maps.insert self.old (port.now, vlan) switch) }
         ensures err { OnErr result (self.new ≡ self.old) }
     {
-        Ok(self.switches.insert((*port, vlan), switch)?)
+        self.switches.put((*port, vlan), switch)
     }
 
     /// Takes the binding of a VLAN of a port away, and gives its switch. Takes no memory.
@@ -66,7 +64,7 @@ impl Bindings {
     pub fn find(&self, port: &Name, vlan: Vlan) -> Option<RowId>
         ensures { result ≡ maps.get self.now (port.now, vlan) }
     {
-        self.switches.get(&(*port, vlan)).copied()
+        self.switches.find(&(*port, vlan)).copied()
     }
 
     /// The ports and VLANs that are bound to a switch, by name and then by VLAN. Takes no memory.
@@ -74,7 +72,7 @@ impl Bindings {
         ensures { places_of result.switch result.rest ≡ places_of switch self.now.list }
     {
         Members {
-            rest: self.switches.iter(),
+            rest: self.switches.walk(None),
             switch,
         }
     }
@@ -83,7 +81,7 @@ impl Bindings {
 /// The ports and VLANs that are bound to one switch, in order.
 #[derive(Drop)]
 pub struct Members<'a> {
-    rest: Iter<'a, (Name, Vlan), RowId>,
+    rest: Walk<'a, (Name, Vlan), RowId>,
     switch: RowId,
 }
 
@@ -103,6 +101,3 @@ impl<'a> Iterator for Members<'a> {
         None
     }
 }
-
-#[cfg(test)]
-mod tests;

@@ -1,13 +1,17 @@
 -- A name is read as it stands.
-use Rattle.std.proofs.Common.{◌≡◌, ℕ, ◌+◌, ◌<◌, ◌≤◌, Bool, true, false, ◌&&◌, nat_le, nat_lt, ◌==◌, if◌then◌else◌, [], ◌∷◌, ◌++◌, length, length-append, take, set, Some, None, refl, sym, ap, ◌∙◌, append_assoc, append-nil, arith}
+use Rattle.std.proofs.Common.{◌≡◌, ℕ, ◌+◌, ◌<◌, ◌≤◌, Bool, true, false, ◌&&◌, nat_le, nat_lt, ◌==◌, if◌then◌else◌, [], ◌∷◌, ◌++◌, ◌⊎◌, inl, inr, length, length-append, drop, replicate, Some, None, Err, refl, sym, ap, ◌∙◌, append_assoc, append-nil, arith}
 use Rattle.std.proofs.lemmas.Bool.Decides.{nat_tests}
-use Rattle.std.proofs.lemmas.List.{take_more_set}
+use Rattle.std.proofs.lemmas.List.{drop-replicate, length-drop, length-replicate}
+use Rattle.std.proofs.Math.Seq.{take-append_seam, drop-append_seam}
 use Rattle.std.proofs.lemmas.List.Folds.{list_all-append}
 use Rattle.std.specs.List.{list_all}
 use Rattle.std.specs.Option.{option_and_then}
 use Rattle.std.proofs.lemmas.Option.{option_and_then_some}
-use Rattle.vtep_base.specs.Reading.{Bytes}
-use Rattle.vtep_base.specs.Texts.{is_name_byte, name_step, name_done, name_of, is_name}
+use Rattle.vtep_base.specs.Reading.{Bytes, IsLongestFront}
+use Rattle.vtep_base.specs.NameCells.{IsHeld, BeginsName, read_upto}
+use Rattle.vtep_base.specs.Texts.{is_name_byte, name_step, name_done, read_name, name_of, is_name}
+use Rattle.vtep_base.proofs.LongestFront.{is_longest}
+use Rattle.vtep_base.proofs.Completed.{name_completes}
 use Rattle.vtep_base.proofs.Runs.{runs, runs_one, runs_spelled, read_runs}
 
 one_byte : (front : Bytes) (c : ℕ) → is_name_byte c ≡ true → length front < 64 → name_step front c ≡ Some (front ++ c ∷ [])
@@ -25,9 +29,28 @@ bytes_run front (c ∷ cs) all room =
     runs_one name_step front (front ++ c ∷ []) (front ++ c ∷ cs) c cs (one_byte front c byte (omega (arith, room)))
     (bytes_run (front ++ c ∷ []) cs rest (omega (arith, room, length-append front (c ∷ []))) ∙ ap Some (append_assoc front (c ∷ []) cs))
 
--- one more byte in the cells
-pub more_bytes : (cells : Bytes) (len b : ℕ) → len < length cells → list_all is_name_byte (take len cells) ≡ true → is_name_byte b ≡ true → list_all is_name_byte (take (len + 1) (set cells len b)) ≡ true
-more_bytes cells len b room all is = rw (take_more_set cells len b room, list_all-append, all, is) refl
+-- the letters are held in the front of the cells
+pub held_text : (text front behind : Bytes) → length text ≤ 64 → list_all is_name_byte text ≡ true → front ≡ text → behind ≡ drop (length text) (replicate 64 0) → IsHeld (record { text = front ++ behind; len = length text })
+held_text text front behind short all same zeros =
+    let cells : Bytes = replicate 64 0 in
+    rw same (rw zeros (record {
+      room = omega (arith, short, length-append text (drop (length text) cells), length-drop (length text) cells, length-replicate {A = ℕ} 64 0);
+      within = short;
+      bytes = rw (take-append_seam text (drop (length text) cells)) all;
+      zeros = drop-append_seam text (drop (length text) cells) ∙ drop-replicate (length text) 64 0;
+    }))
+
+-- where no name is read, the front that begins one ends
+pub not_read : (text : Bytes) (n : ℕ) → BeginsName text n → (n ≡ 0) ⊎ (n < length text) → read_name text ≡ Err n
+not_read text n b (inl none) = b.read ∙ first text n none ∙ ap Err (sym none)
+  where
+    first : (text : Bytes) (n : ℕ) → n ≡ 0 → read_upto text n ≡ Err 0
+    first [] n e = rw e refl
+    first (c ∷ cs) n e = let some : (n == length (c ∷ cs)) ≡ false = grind (arith, nat_tests, e) in rw some (ap Err e)
+not_read text n b (inr below) = let other : (n == length text) ≡ false = grind (arith, nat_tests, below) in b.read ∙ rw other refl
+
+pub not_read_longest : (text : Bytes) (n : ℕ) → BeginsName text n → (n ≡ 0) ⊎ (n < length text) → IsLongestFront name_of text n
+not_read_longest text n b stops = is_longest name_step name_done name_completes text n [] (not_read text n b stops)
 
 pub record IsName (text : Bytes) : Type 0 where
   pub some : 0 < length text

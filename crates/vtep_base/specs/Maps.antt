@@ -2,10 +2,11 @@
 --     Map R X                               from keys in the order R to values of X
 --     empty, get, has, insert, remove, keep      as Rust's `BTreeMap`
 --     keys, values, of_list                 the keys and the values in order;  the map of entries, where the first value of a key stays
+--     map_by R, not_below R                 the map of entries in the order R;  its entries from a key on
 --     same_map                              maps that answer alike are equal
-use Rattle.std.specs.Prelude.{◌≡◌, ℕ, Bool, true, false, cond, not, T, List, [], ◌∷◌, map, length, is_some, Option, Some, None, refl}
+use Rattle.std.specs.Prelude.{◌≡◌, ℕ, Bool, true, false, cond, not, T, List, [], ◌∷◌, map, filter, length, is_some, Option, Some, None, refl}
 use Rattle.std.proofs.Common.{sym, ap, subst, ◌∙◌}
-use Rattle.std.specs.Ordering.{eq_by_cmp, is_eq}
+use Rattle.std.specs.Ordering.{eq_by_cmp, is_eq, is_le}
 use Rattle.std.specs.Cmp.{IsTotalOrder, alike_right, eq_by_cmp_equiv}
 use Rattle.std.specs.declared.cmp.Ordering.{Ordering}
 use Rattle.std.specs.FinMap.{find, put, is_sorted, IsAntisymmetric}
@@ -93,3 +94,13 @@ module _ {K X : Type 0} {R : K → K → Ordering} (o : IsTotalOrder R) where
   pub get-of_list : (es : List (K × X)) (q : K) → get (of_list {R = R} es) q ≡ find R q es
   get-of_list [] q = refl
   get-of_list (e ∷ es) q = get-insert (of_list es) e.0 e.1 q ∙ ap (cond (eq_by_cmp R q e.0) (Some e.1)) (get-of_list es q)
+
+module _ {K X : Type 0} (R : K → K → Ordering) where
+  -- the map of these entries, in the order R
+  abbrev pub map_by : List (K × X) → Map R X
+  map_by es = of_list es
+
+  -- the entries whose keys are not below this one, or all
+  abbrev pub not_below : Option K → Map R X → List (K × X)
+  not_below None m = m.list
+  not_below (Some k) m = filter (λ e. is_le (R k e.0)) m.list

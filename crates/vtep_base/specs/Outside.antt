@@ -1,6 +1,6 @@
 -- What sources and sinks are: their bytes, where they tell them, and their counts.
 use Rattle.std.specs.Prelude.{◌≡◌, ℕ, ◌+◌, ◌-◌, ◌^◌, ◌≤◌, ◌<◌, min, [], ◌++◌, length, take, Option, Some, None}
-use Rattle.std.specs.Io.KnownBytes.{Consumes, Appends, Keeps}
+use Rattle.std.specs.Io.KnownBytes.{Consumes, Appends, Keeps, IsAtEnd}
 use Rattle.vtep_base.specs.Reading.{Bytes}
 use Rattle.vtep_base.specs.declared.outside.Took.{Took}
 use Rattle.vtep_base.specs.declared.outside.Took.TheVariants as took
@@ -96,10 +96,10 @@ abbrev pub IsWhole : Put → ℕ → Type 0
 IsWhole (put.Put n) size = n ≡ size
 IsWhole put.Failed size = Unit {0}
 
--- a reader whose bytes are known lost those that were taken
+-- a reader whose bytes are known lost those that were taken, and has none left at its end
 abbrev pub TakesOf : Option Bytes → Option Bytes → Bytes → Took → Type 0
 TakesOf before now buffer (took.Took n) = Consumes before now (take n buffer)
-TakesOf before now buffer took.End = Consumes before now []
+TakesOf before now buffer took.End = Consumes before now [] × IsAtEnd now
 TakesOf before now buffer took.Failed = Keeps before now
 
 -- a writer whose bytes are known has those that were put

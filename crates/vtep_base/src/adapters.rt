@@ -39,12 +39,14 @@ impl<R: Read + Drop> Source for ReadSource<R> {
     ghost ends = { λ s. s.ends };
 
     fn take(&mut self, buffer: &mut [u8]) -> Took
+        requires { 0 < length buffer.old }
         ensures takes { Takes
             (record { left = None; taken = None; faults = self.old.faults; ends = self.old.ends })
             (record { left = None; taken = None; faults = self.new.faults; ends = self.new.ends })
             buffer.new result }
         // The answer is what the reader gave.
-        ensures reader { TakesOf (R.remaining self.old.reader) (R.remaining self.new.reader) buffer.new result }
+        ensures reader { TakesOf (R.remaining self.old.reader) (R.remaining self.new.reader)
+            buffer.new result }
     {
         match self.reader.read(buffer) {
             Ok(0) => {
@@ -83,9 +85,11 @@ impl<W: Write + Drop> Sink for WriteSink<W> {
     ghost faults = { λ s. s.faults };
 
     fn put(&mut self, piece: &[u8]) -> Put
-        ensures puts { Puts (record { written = None; faults = self.old.faults }) (record { written = None; faults = self.new.faults }) piece.now result }
+        ensures puts { Puts (record { written = None; faults = self.old.faults })
+            (record { written = None; faults = self.new.faults }) piece.now result }
         // The answer is what the writer took.
-        ensures writer { PutsTo (W.contents self.old.writer) (W.contents self.new.writer) piece.now result }
+        ensures writer { PutsTo (W.contents self.old.writer) (W.contents self.new.writer) piece.now
+            result }
     {
         match self.writer.write(piece) {
             Ok(0) | Err(_) => {

@@ -148,7 +148,8 @@ impl Mac {
 
     /// Reads six pairs of hexadecimal digits of either case, joined by `:`.
     pub fn parse(text: &[u8]) -> Result<Mac, TextFault>
-        ensures value { MatchResult result (λ m. read_mac text.now ≡ Ok m) (λ f. read_mac text.now ≡ Err f.offset) }
+        ensures value { MatchResult result (λ m. read_mac text.now ≡ Ok m)
+            (λ f. read_mac text.now ≡ Err f.offset) }
         ensures longest { IfErr result (λ f. IsLongestFront mac_of text.now f.offset) }
     {
         let front = Pairs {

@@ -9,8 +9,11 @@ use std::marker::Model;
 /// A VLAN of a port of a gateway, which a switch may be bound to. Bindings are in the order of gateway, port and VLAN.
 #[derive(Clone, Copy, Debug, PartialEq, Eq, PartialOrd, Ord)]
 pub struct Binding {
+    /// The name of the gateway.
     pub gateway: Name,
+    /// The name of its port.
     pub port: Name,
+    /// The VLAN; 0 for frames without tag.
     pub vlan: Vlan,
 }
 

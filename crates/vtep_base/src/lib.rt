@@ -10,6 +10,7 @@ mod lists;
 mod memory;
 mod names;
 mod numbers;
+mod ordered;
 mod outside;
 mod reading;
 mod room;
@@ -25,11 +26,9 @@ pub use lists::{Bytes, List, Txt};
 pub use memory::{MemorySink, MemorySource};
 pub use names::Name;
 pub use numbers::{Ipv4, Vlan, Vni, parse_number};
+pub use ordered::{Ordered, Walk};
 pub use outside::{Put, Sink, Source, Took};
 pub use reading::TextFault;
 pub use room::RoomyBytes;
 pub use shapes::{Action, Direction, Kind, Shape};
 pub use words::Word;
-
-#[cfg(test)]
-mod tests;

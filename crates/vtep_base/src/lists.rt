@@ -45,18 +45,21 @@ impl<T: Drop> List<T> {
         self.items
     }
 
+    /// The items in their order. Takes no memory, as the calls of reading below.
     pub fn as_slice(&self) -> &[T]
         ensures { result.now ≡ self.now }
     {
         self.items.as_slice()
     }
 
+    /// How many items there are.
     pub fn len(&self) -> usize
         ensures { result ≡ length self.now }
     {
         self.items.len()
     }
 
+    /// Whether there is no item.
     pub fn is_empty(&self) -> bool
         ensures { result ≡ (length self.now == 0) }
     {
@@ -120,18 +123,21 @@ impl Bytes {
         self.bytes
     }
 
+    /// The bytes in their order. Takes no memory, as the calls of reading below.
     pub fn as_slice(&self) -> &[u8]
         ensures { result.now ≡ self.now }
     {
         self.bytes.as_slice()
     }
 
+    /// How many bytes there are.
     pub fn len(&self) -> usize
         ensures { result ≡ length self.now }
     {
         self.bytes.len()
     }
 
+    /// Whether there is no byte.
     pub fn is_empty(&self) -> bool
         ensures { result ≡ (length self.now == 0) }
     {
@@ -180,7 +186,8 @@ impl Bytes {
 
 /// Adds pieces at the end. An `Err` may leave some of them there.
 fn append_each(bytes: &mut Vec<u8>, pieces: &[&[u8]]) -> Result<(), AllocError>
-    ensures ok { OnOk result (bytes.new.items ≡ bytes.old.items ++ flat_map (λ p. p.now) pieces.now) }
+    ensures ok { OnOk result (bytes.new.items ≡ bytes.old.items
+        ++ flat_map (λ p. p.now) pieces.now) }
     ensures err { OnErr result (take (length bytes.old.items) bytes.new.items ≡ bytes.old.items) }
 {
     'pieces: for piece in pieces {
@@ -227,12 +234,14 @@ impl Txt {
         self.text
     }
 
+    /// The text. Takes no memory.
     pub fn as_str(&self) -> &str
         ensures { result.now ≡ self.now }
     {
         self.text.as_str()
     }
 
+    /// The text's bytes. Takes no memory.
     pub fn as_slice(&self) -> &[u8]
         ensures { result.now ≡ self.now }
     {

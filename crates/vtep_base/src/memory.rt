@@ -47,7 +47,8 @@ impl MemorySource {
 fn next_place(pieces: &[Bytes], place: usize, offset: usize) -> (usize, usize)
     ensures left { left_at pieces.now result.0 result.1 ≡ left_at pieces.now place offset }
     ensures taken { taken_at pieces.now result.0 result.1 ≡ taken_at pieces.now place offset }
-    ensures found { result.0 < length pieces.now → result.1 < length (slice_index_or pieces.now result.0 []) }
+    ensures found { result.0 < length pieces.now → result.1
+        < length (slice_index_or pieces.now result.0 []) }
 {
     let mut place = place;
     let mut offset = offset;
@@ -106,7 +107,8 @@ impl Source for MemorySource {
             (record { left = Some (left_at self.new.pieces self.new.place self.new.offset); taken = Some (taken_at self.new.pieces self.new.place self.new.offset); faults = self.new.faults; ends = self.new.ends })
             buffer.new result }
         // Exactly the takes whose numbers are listed fail.
-        ensures failed { IsFailed result ↔ IsTrue (list_any (λ n. n == self.old.takes) self.old.fails) }
+        ensures failed { IsFailed result
+            ↔ IsTrue (list_any (λ n. n == self.old.takes) self.old.fails) }
         ensures fails { self.new.fails ≡ self.old.fails }
         ensures number { self.new.takes ≡ counted self.old.takes }
     {
@@ -166,7 +168,8 @@ impl Sink for MemorySink {
             (record { written = Some self.new.written; faults = self.new.faults })
             piece.now result }
         // The puts whose numbers are listed fail; others fail for want of memory alone, and what is put is put whole.
-        ensures failed { IsTrue (list_any (λ n. n == self.old.puts) self.old.fails) → result ≡ Put.Failed }
+        ensures failed { IsTrue (list_any (λ n. n == self.old.puts) self.old.fails) → result
+            ≡ Put.Failed }
         ensures whole { IsWhole result (length piece.now) }
         ensures fails { self.new.fails ≡ self.old.fails }
         ensures number { self.new.puts ≡ counted self.old.puts }

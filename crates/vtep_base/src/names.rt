@@ -4,11 +4,13 @@ ghost use Rattle.std.specs.Prelude.{◌≡◌, ◌+◌, ◌≤◌, ◌<◌, ◌�
 ghost use Rattle.std.specs.Cmp.Lexicographic.{slice_cmp, pointwise};
 ghost use Rattle.std.specs.Ordering.{nat_cmp};
 ghost use Rattle.vtep_base.specs.Reading.{IsLongestFront};
+ghost use Rattle.std.specs.List.{list_all};
+ghost use Rattle.vtep_base.specs.NameCells.{BeginsName};
 ghost use Rattle.vtep_base.specs.Texts.{read_name, name_of, is_name_byte, is_name};
 
 use crate::answers::OutOfMemory;
 use crate::lists::Bytes;
-use crate::reading::{Front, TextFault, read};
+use crate::reading::TextFault;
 use std::cmp::Ordering;
 use std::fmt;
 use std::marker::Model;
@@ -16,7 +18,7 @@ use std::marker::Model;
 /// The most bytes that a name has.
 const ROOM: usize = 64;
 
-/// The letters of a name as far as they are read, held in place.
+/// The letters of a name, held in place.
 #[derive(Clone, Copy)]
 pub struct Letters {
     text: [u8; 64],
@@ -58,6 +60,21 @@ impl Model for Name {
 }
 
 impl Letters {
+    /// These letters.
+    fn new(text: &[u8]) -> Letters
+        requires short { length text.now ≤ 64 }
+        requires bytes { list_all is_name_byte text.now ≡ true }
+        ensures { result ≡ text.now }
+    {
+        let mut cells = [0; 64];
+        let (front, _) = cells.split_at_mut(text.len());
+        front.copy_from_slice(text);
+        Letters {
+            text: cells,
+            len: text.len() as u8,
+        }
+    }
+
     fn as_slice(&self) -> &[u8]
         ensures text { result.now ≡ self.now }
         ensures short { length result.now ≤ 64 }
@@ -78,14 +95,17 @@ impl Name {
 
     /// Reads a name.
     pub fn parse(text: &[u8]) -> Result<Name, TextFault>
-        ensures value { MatchResult result (λ n. read_name text.now ≡ Ok n) (λ f. read_name text.now ≡ Err f.offset) }
+        ensures value { MatchResult result (λ n. read_name text.now ≡ Ok n)
+            (λ f. read_name text.now ≡ Err f.offset) }
         ensures longest { IfErr result (λ f. IsLongestFront name_of text.now f.offset) }
     {
-        let front = Letters {
-            text: [0; 64],
-            len: 0,
-        };
-        read(front, text)
+        let offset = front_length(text);
+        if offset == 0 || offset < text.len() {
+            return Err(TextFault { offset });
+        }
+        Ok(Name {
+            letters: Letters::new(text),
+        })
     }
 
     /// Appends the text of the name.
@@ -169,32 +189,14 @@ fn is_name_byte(byte: u8) -> bool
     byte.is_ascii_alphanumeric() || matches!(byte, b'_' | b'-' | b'.')
 }
 
-impl Front for Letters {
-    ghost use Rattle.vtep_base.specs.Texts.{name_step, name_done};
-
-    type Value = Name;
-
-    ghost step = { name_step };
-
-    ghost done = { name_done };
-
-    fn step(self, byte: u8) -> Option<Letters> {
-        if !is_name_byte(byte) || self.len as usize == ROOM {
-            return None;
-        }
-        let mut text = self.text;
-        text[self.len as usize] = byte;
-        Some(Letters {
-            text,
-            len: self.len + 1,
-        })
-    }
-
-    fn done(self) -> Option<Name> {
-        if self.len == 0 {
-            None
-        } else {
-            Some(Name { letters: self })
+/// How many bytes at the front of the text begin a name.
+fn front_length(text: &[u8]) -> usize
+    ensures { BeginsName text.now result }
+{
+    'bytes: for (offset, byte) in text.iter().enumerate() {
+        if !is_name_byte(*byte) || offset == ROOM {
+            return offset;
         }
     }
+    text.len()
 }

@@ -61,7 +61,8 @@ impl Front for Number {
 
 /// Reads a decimal number up to `most`, without a needless leading zero.
 pub fn parse_number(text: &[u8], most: u32) -> Result<u32, TextFault>
-    ensures value { MatchResult result (λ n. read_number most text.now ≡ Ok n) (λ f. read_number most text.now ≡ Err f.offset) }
+    ensures value { MatchResult result (λ n. read_number most text.now ≡ Ok n)
+        (λ f. read_number most text.now ≡ Err f.offset) }
     ensures longest { IfErr result (λ f. IsLongestFront (number_upto most) text.now f.offset) }
     ensures within { IfOk result (λ n. n ≤ most) }
 {
@@ -123,7 +124,8 @@ impl Front for Dotted {
 
 /// Reads the 32 bits of dotted decimal.
 fn parse_bits(text: &[u8]) -> Result<u32, TextFault>
-    ensures value { MatchResult result (λ ip. read_ipv4 text.now ≡ Ok ip) (λ f. read_ipv4 text.now ≡ Err f.offset) }
+    ensures value { MatchResult result (λ ip. read_ipv4 text.now ≡ Ok ip)
+        (λ f. read_ipv4 text.now ≡ Err f.offset) }
     ensures longest { IfErr result (λ f. IsLongestFront ipv4_of text.now f.offset) }
 {
     let front = Dotted {
@@ -167,7 +169,8 @@ impl Ipv4 {
 
     /// Reads dotted decimal.
     pub fn parse(text: &[u8]) -> Result<Ipv4, TextFault>
-        ensures value { MatchResult result (λ ip. read_ipv4 text.now ≡ Ok ip) (λ f. read_ipv4 text.now ≡ Err f.offset) }
+        ensures value { MatchResult result (λ ip. read_ipv4 text.now ≡ Ok ip)
+            (λ f. read_ipv4 text.now ≡ Err f.offset) }
         ensures longest { IfErr result (λ f. IsLongestFront ipv4_of text.now f.offset) }
     {
         let bits = parse_bits(text)?;
@@ -240,6 +243,7 @@ impl Vni {
         Vni { number }
     }
 
+    /// The number, below 2^24.
     pub fn number(self) -> u32
         ensures value { result ≡ self }
         ensures fits { result < 2 ^ 24 }
@@ -249,7 +253,8 @@ impl Vni {
 
     /// Reads a decimal number up to 16777215.
     pub fn parse(text: &[u8]) -> Result<Vni, TextFault>
-        ensures value { MatchResult result (λ v. read_number 16777215 text.now ≡ Ok v) (λ f. read_number 16777215 text.now ≡ Err f.offset) }
+        ensures value { MatchResult result (λ v. read_number 16777215 text.now ≡ Ok v)
+            (λ f. read_number 16777215 text.now ≡ Err f.offset) }
         ensures longest { IfErr result (λ f. IsLongestFront vni_of text.now f.offset) }
     {
         let number = parse_number(text, 16_777_215)?;
@@ -275,6 +280,7 @@ impl Vlan {
         Vlan { number }
     }
 
+    /// The number, below 2^12.
     pub fn number(self) -> u16
         ensures value { result ≡ self }
         ensures fits { result < 2 ^ 12 }
@@ -284,7 +290,8 @@ impl Vlan {
 
     /// Reads a decimal number up to 4095.
     pub fn parse(text: &[u8]) -> Result<Vlan, TextFault>
-        ensures value { MatchResult result (λ v. read_number 4095 text.now ≡ Ok v) (λ f. read_number 4095 text.now ≡ Err f.offset) }
+        ensures value { MatchResult result (λ v. read_number 4095 text.now ≡ Ok v)
+            (λ f. read_number 4095 text.now ≡ Err f.offset) }
         ensures longest { IfErr result (λ f. IsLongestFront vlan_of text.now f.offset) }
     {
         let number = parse_number(text, 4095)?;

@@ -12,7 +12,9 @@ pub enum Kind {
 /// What a column holds: a set of atoms, or a map where `value` is there.
 #[derive(Clone, Copy, Debug, PartialEq, Eq)]
 pub struct Shape {
+    /// The kind of the set's atoms, or of the map's keys.
     pub key: Kind,
+    /// The kind of the map's values; None for a set.
     pub value: Option<Kind>,
 }
 

@@ -1,8 +1,9 @@
 pub mod Taken
-pub mod Told
+pub mod ToldTexts
 pub mod Monitored
 pub mod Named
-pub mod Plain
+pub mod NamesApart
+pub mod NoFraction
 pub mod Open
 pub mod Answered
 pub mod Refused

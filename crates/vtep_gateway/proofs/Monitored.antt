@@ -5,9 +5,9 @@ use Rattle.serde_json.specs.View.{items_view}
 use Rattle.serde_json.specs.declared.value.Value.{Value}
 use Rattle.vtep_base.specs.Reading.{Bytes}
 use Rattle.vtep_base.specs.Maps as maps
-use Rattle.vtep_gateway.specs.Monitors.{Watch, Monitors, watches_of, with_watch, asks_in, one_in, others, left_by}
+use Rattle.vtep_gateway.specs.Monitors.{OpenMonitor, Monitors, monitors_of, with_monitor, asks_in, one_in, others, left_by}
 use Rattle.vtep_gateway.specs.Vtep.{Vtep, with_monitors}
-use Rattle.vtep_gateway.specs.Methods.{watch_for, monitor_by, monitor_in, cancel_by, cancel_in}
+use Rattle.vtep_gateway.specs.Methods.{monitor_for, monitor_by, monitor_in, cancel_by, cancel_in}
 
 pub below_three : (vs : List Value) → length vs < 3 → asks_in (items_view vs) ≡ None
 below_three [] h = refl
@@ -32,12 +32,12 @@ above_one (v ∷ []) h = absurd (omega arith)
 above_one (v ∷ w ∷ vs) h = refl
 
 -- a monitor was found and added
-pub opened : (v : Vtep) (s : ℕ) (params : Data) (ws : List Watch) (w : Watch) (m : Monitors) → ws ≡ watches_of v.monitors s → watch_for ws params ≡ Ok w → m ≡ with_watch v.monitors s w
+pub opened : (v : Vtep) (s : ℕ) (params : Data) (ws : List OpenMonitor) (w : OpenMonitor) (m : Monitors) → ws ≡ monitors_of v.monitors s → monitor_for ws params ≡ Ok w → m ≡ with_monitor v.monitors s w
     → with_monitors v m ≡ (monitor_in v s params).vtep
-opened v s params ws w m these found is = ap (with_monitors v) is ∙ sym (ap (λ r. (monitor_by v s r).vtep) (ap (λ ws. watch_for ws params) (sym these) ∙ found))
+opened v s params ws w m these found is = ap (with_monitors v) is ∙ sym (ap (λ r. (monitor_by v s r).vtep) (ap (λ ws. monitor_for ws params) (sym these) ∙ found))
 
 -- a monitor was found and taken away
-pub closed : (v : Vtep) (s : ℕ) (params : Data) (ws : List Watch) (name : Bytes) (m : Monitors) → ws ≡ watches_of v.monitors s → left_by ws params ≡ Ok (others ws name)
-    → m ≡ maps.insert v.monitors s (others (watches_of v.monitors s) name) → with_monitors v m ≡ (cancel_in v s params).vtep
+pub closed : (v : Vtep) (s : ℕ) (params : Data) (ws : List OpenMonitor) (name : Bytes) (m : Monitors) → ws ≡ monitors_of v.monitors s → left_by ws params ≡ Ok (others ws name)
+    → m ≡ maps.insert v.monitors s (others (monitors_of v.monitors s) name) → with_monitors v m ≡ (cancel_in v s params).vtep
 closed v s params ws name m these found is =
     ap (with_monitors v) is ∙ sym (ap (λ r. (cancel_by v s r).vtep) (ap (λ ws. left_by ws params) (sym these) ∙ found ∙ ap (λ ws. Ok (others ws name)) these))

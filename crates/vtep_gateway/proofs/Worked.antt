@@ -93,20 +93,20 @@ aborted = refl
 -- ---- monitors
 
 -- the gateway once session 1 follows the names of the switches
-abbrev watched : Gateway
-watched = (step g1 (event.Bytes 1 (codes "{\"method\":\"monitor\",\"params\":[\"hardware_vtep\",\"m\",{\"Logical_Switch\":{\"columns\":[\"name\"]}}],\"id\":1}"))).gateway
+abbrev monitored : Gateway
+monitored = (step g1 (event.Bytes 1 (codes "{\"method\":\"monitor\",\"params\":[\"hardware_vtep\",\"m\",{\"Logical_Switch\":{\"columns\":[\"name\"]}}],\"id\":1}"))).gateway
 
 opens_a_monitor : sent (step g1 (event.Bytes 1 (codes "{\"method\":\"monitor\",\"params\":[\"hardware_vtep\",\"m\",{\"Logical_Switch\":{\"columns\":[\"name\"]}}],\"id\":1}"))) ≡ codes "{\"error\":null,\"id\":1,\"result\":{}}" ∷ []
 unfolding texts is_utf8 chars
 opens_a_monitor = refl
 
 -- session 2 inserts a switch: session 1 is told of it before session 2 has its reply
-tells_of_a_row : (step watched (event.Bytes 2 (codes "{\"method\":\"transact\",\"params\":[\"hardware_vtep\",{\"op\":\"insert\",\"table\":\"Logical_Switch\",\"row\":{\"name\":\"red\"}}],\"id\":7}"))).answer.sends
+tells_of_a_row : (step monitored (event.Bytes 2 (codes "{\"method\":\"transact\",\"params\":[\"hardware_vtep\",{\"op\":\"insert\",\"table\":\"Logical_Switch\",\"row\":{\"name\":\"red\"}}],\"id\":7}"))).answer.sends
     ≡ record { session = 1; bytes = codes "{\"id\":null,\"method\":\"update\",\"params\":[\"m\",{\"Logical_Switch\":{\"0a000001-0000-8000-8000-000000000003\":{\"new\":{\"name\":\"red\"}}}}]}" }
     ∷ record { session = 2; bytes = codes "{\"error\":null,\"id\":7,\"result\":[{\"uuid\":[\"uuid\",\"0a000001-0000-8000-8000-000000000003\"]}]}" } ∷ []
 unfolding texts is_utf8 chars
 tells_of_a_row = refl
 
-forgets_monitors : (run watched (event.Hangup 1 ∷ [])).vtep ≡ g1.vtep
+forgets_monitors : (run monitored (event.Hangup 1 ∷ [])).vtep ≡ g1.vtep
 unfolding texts is_utf8 chars
 forgets_monitors = refl

@@ -1,12 +1,8 @@
 -- What follows a change of the rows.
-use Rattle.std.specs.Prelude.{Option, Some, None, option_map, Result, Ok, Err}
+use Rattle.std.specs.Prelude.{Option, Some, None, Result, Ok, Err}
 use Rattle.vtep_rows.specs.declared.soundness.Rule.{Rule}
 use Rattle.vtep_rows.specs.Rows.{Rows, collected}
-use Rattle.vtep_rows.specs.Sound.{breach}
-
--- the first rule that the rows break
-abbrev pub broken : Rows → Option Rule
-broken r = option_map (λ b. b.rule) (breach r)
+use Rattle.vtep_rows.specs.Sound.{broken}
 
 abbrev pub judged : Rows → Option Rule → Result Rows Rule
 judged r None = Ok r

@@ -1,3 +1,4 @@
+pub mod Names
 pub mod Monitors
 pub mod Vtep
 pub mod Gateway

@@ -21,7 +21,7 @@ use Rattle.transact_profile.specs.Transaction.{ops_in}
 use Rattle.transact_profile.specs.Finish.{finished}
 use Rattle.monitor_updates.specs.Requests.{or_refuse, ◌>>?◌, request_of}
 use Rattle.monitor_updates.specs.Updates.{opening_json}
-use Rattle.vtep_gateway.specs.Monitors.{Watch, watches_of, with_watch, told_all, is_free, asks, left_by}
+use Rattle.vtep_gateway.specs.Monitors.{OpenMonitor, monitors_of, with_monitor, told_all, is_free, asks, left_by}
 use Rattle.vtep_gateway.specs.Vtep.{Vtep, with_rows, with_monitors}
 use Rattle.vtep_gateway.specs.Commit.{commit}
 
@@ -94,8 +94,8 @@ transact_in v params (Ok _) = let t : Data × Option Rows = transacted (means (o
 transact_in v params (Err w) = only v (Err w)
 
 -- the monitor that is asked for, or the first refusal: of the parameters' form, of the database, of the name, and of what is asked of the tables
-abbrev pub watch_for : List Watch → Data → Result Watch Word
-watch_for ws params =
+abbrev pub monitor_for : List OpenMonitor → Data → Result OpenMonitor Word
+monitor_for ws params =
     or_refuse word.SyntaxError (asks params) >>? λ a.
     in_database params >>? λ _.
     is_free ws (compact_text a.0) >>? λ _.
@@ -103,19 +103,19 @@ watch_for ws params =
     Ok (record { name = compact_text a.0; request = request })
 
 -- the monitor is opened, and the rows that are there are the result
-abbrev pub monitor_by : Vtep → ℕ → Result Watch Word → Done
-monitor_by v s (Ok w) = only (with_monitors v (with_watch v.monitors s w)) (Ok (opening_json w.request v.rows))
+abbrev pub monitor_by : Vtep → ℕ → Result OpenMonitor Word → Done
+monitor_by v s (Ok w) = only (with_monitors v (with_monitor v.monitors s w)) (Ok (opening_json w.request v.rows))
 monitor_by v s (Err w) = only v (Err w)
 
-abbrev pub cancel_by : Vtep → ℕ → Result (List Watch) Word → Done
+abbrev pub cancel_by : Vtep → ℕ → Result (List OpenMonitor) Word → Done
 cancel_by v s (Ok ws) = only (with_monitors v (maps.insert v.monitors s ws)) (Ok (object no_members))
 cancel_by v s (Err w) = only v (Err w)
 
 abbrev pub monitor_in : Vtep → ℕ → Data → Done
-monitor_in v s params = monitor_by v s (watch_for (watches_of v.monitors s) params)
+monitor_in v s params = monitor_by v s (monitor_for (monitors_of v.monitors s) params)
 
 abbrev pub cancel_in : Vtep → ℕ → Data → Done
-cancel_in v s params = cancel_by v s (left_by (watches_of v.monitors s) params)
+cancel_in v s params = cancel_by v s (left_by (monitors_of v.monitors s) params)
 
 -- what a session's request does: the session, the method, the parameters
 abbrev pub called : Vtep → ℕ → Option Method → Data → Done

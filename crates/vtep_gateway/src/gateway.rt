@@ -114,7 +114,8 @@ impl Gateway {
     }
 
     fn on_bytes(&mut self, session: u32, piece: &Bytes) -> Result<Answer, OutOfMemory>
-        ensures ok { IfOk result (λ a. on_bytes self.old.state session piece.now ≡ record { gateway = self.new.state; answer = a }) }
+        ensures ok { IfOk result (λ a. on_bytes self.old.state session piece.now
+            ≡ record { gateway = self.new.state; answer = a }) }
         ensures going { self.new.stopped ≡ self.old.stopped }
     {
         let mut framer = self.streams.take(session);
@@ -130,7 +131,8 @@ impl Gateway {
     }
 
     fn on_hangup(&mut self, session: u32) -> Answer
-        ensures ok { on_hangup self.old.state session ≡ record { gateway = self.new.state; answer = result } }
+        ensures ok { on_hangup self.old.state session
+            ≡ record { gateway = self.new.state; answer = result } }
         ensures going { self.new.stopped ≡ self.old.stopped }
     {
         if !self.streams.close(session) {
@@ -142,7 +144,8 @@ impl Gateway {
 
     /// Keeps the rows after a change, where they break no rule, and tells the monitors of it.
     fn change(&mut self, rows: Option<Rows>) -> Result<Answer, OutOfMemory>
-        ensures ok { IfOk result (λ a. changed self.old.state rows ≡ record { gateway = self.new.state; answer = a }) }
+        ensures ok { IfOk result (λ a. changed self.old.state rows
+            ≡ record { gateway = self.new.state; answer = a }) }
         ensures going { self.new.stopped ≡ self.old.stopped }
     {
         let Some(rows) = rows else {
@@ -161,7 +164,8 @@ impl Gateway {
     }
 
     fn on_port(&mut self, name: &Name) -> Result<Answer, OutOfMemory>
-        ensures ok { IfOk result (λ a. on_port self.old.state name.now ≡ record { gateway = self.new.state; answer = a }) }
+        ensures ok { IfOk result (λ a. on_port self.old.state name.now
+            ≡ record { gateway = self.new.state; answer = a }) }
         ensures going { self.new.stopped ≡ self.old.stopped }
     {
         if let Some(why) = port_refusal(&self.vtep.rows, name) {
@@ -172,7 +176,8 @@ impl Gateway {
     }
 
     fn on_unport(&mut self, name: &Name) -> Result<Answer, OutOfMemory>
-        ensures ok { IfOk result (λ a. on_unport self.old.state name.now ≡ record { gateway = self.new.state; answer = a }) }
+        ensures ok { IfOk result (λ a. on_unport self.old.state name.now
+            ≡ record { gateway = self.new.state; answer = a }) }
         ensures going { self.new.stopped ≡ self.old.stopped }
     {
         let Some(id) = port_named(&self.vtep.rows, name) else {
@@ -183,7 +188,8 @@ impl Gateway {
     }
 
     fn answer(&mut self, event: &Event) -> Result<Answer, OutOfMemory>
-        ensures ok { IfOk result (λ a. step self.old.state event.now ≡ record { gateway = self.new.state; answer = a }) }
+        ensures ok { IfOk result (λ a. step self.old.state event.now
+            ≡ record { gateway = self.new.state; answer = a }) }
         ensures going { self.new.stopped ≡ self.old.stopped }
     {
         match event {
@@ -194,10 +200,16 @@ impl Gateway {
         }
     }
 
-    /// Does what an event asks for. Where it finds no memory, the gateway is stopped.
+    /// Does what an event asks for, and gives what goes out.
+    ///
+    /// A piece of a session's bytes is never refused; where its stream is, `failed` says so, and the messages before keep their
+    /// effect. `Hangup` is refused with `NoSession` where the session is not open, `Port` with `Repeated` where the port is there and
+    /// with `Ports` where 64 are or no row number is left, `Unport` with `NoPort` where it is not there. What is refused changes
+    /// nothing. The one error is want of memory, after which the gateway is stopped.
     pub fn step(&mut self, event: &Event) -> Result<Answer, OutOfMemory>
         requires going { self.old.stopped ≡ false }
-        ensures ok { IfOk result (λ a. step self.old.state event.now ≡ record { gateway = self.new.state; answer = a }) }
+        ensures ok { IfOk result (λ a. step self.old.state event.now
+            ≡ record { gateway = self.new.state; answer = a }) }
         ensures going { OnOk result (self.new.stopped ≡ false) }
         ensures stopped { OnErr result (self.new.stopped ≡ true) }
     {

@@ -1,4 +1,4 @@
-//! What is refused changes nothing.
+//! Laws of the definitions: what is refused changes nothing, how updates are sent, and that names are values.
 
 ghost use Rattle.std.specs.Prelude.{◌≡◌, ℕ, true, [], ◌∷◌, Some, codes};
 ghost use Rattle.serde_json.specs.Data.{Data};
@@ -14,6 +14,7 @@ ghost use Rattle.transact_profile.specs.Transaction.{ops_in};
 ghost use Rattle.vtep_gateway.specs.declared.Event.{Event};
 ghost use Rattle.vtep_gateway.specs.declared.Event.TheVariants as event;
 ghost use Rattle.vtep_gateway.specs.declared.EventRefused.{EventRefused};
+ghost use Rattle.vtep_gateway.specs.Names.{IsWhole};
 ghost use Rattle.vtep_gateway.specs.Vtep.{Vtep};
 ghost use Rattle.vtep_gateway.specs.Gateway.{Gateway};
 ghost use Rattle.vtep_gateway.specs.Methods.{in_database, fails, transact_in};
@@ -23,21 +24,32 @@ ghost use Rattle.vtep_gateway.specs.Moves.{step};
 
 /// An event that is refused leaves the gateway as it was.
 pub fn refused_changes_nothing()
-    ensures { (g : Gateway) (e : Event) (why : EventRefused) → (step g e).answer.refused ≡ Some why → (step g e).gateway ≡ g }
+    ensures { (g : Gateway) (e : Event) (why : EventRefused) → (step g e).answer.refused ≡ Some why
+        → (step g e).gateway ≡ g }
 {}
 
 /// A transaction of which an operation fails, or which leaves rows that break a rule, changes no row and gives no number.
 pub fn failed_changes_nothing()
-    ensures { (v : Vtep) (params : Data) → fails (means (ops_in params) v.rows) ≡ true → (transact_in v params (in_database params)).vtep ≡ v }
+    ensures { (v : Vtep) (params : Data) → fails (means (ops_in params) v.rows) ≡ true
+        → (transact_in v params (in_database params)).vtep ≡ v }
 {}
 
 /// A piece that ends no message, as each piece of a refused session, changes no row. Messages before a refusal keep their effect.
 pub fn unfinished_changes_nothing()
-    ensures { (g : Gateway) (s : ℕ) (piece : Bytes) → (come (fed (stream_of g.streams s) piece)).messages ≡ [] → (step g (event.Bytes s piece)).gateway.vtep ≡ g.vtep }
+    ensures { (g : Gateway) (s : ℕ) (piece : Bytes)
+        → (come (fed (stream_of g.streams s) piece)).messages ≡ []
+        → (step g (event.Bytes s piece)).gateway.vtep ≡ g.vtep }
 {}
 
 /// An update as it is sent is the notification `update` whose params are the monitor's name and the table updates (RFC 7047, section
 /// 4.1.6).
 pub fn updates_are_notifications()
-    ensures { (id : Data) → (updates : Data) → update_text (compact_text id) updates ≡ message_text (Notification (codes "update") (list (id ∷ updates ∷ []))) }
+    ensures { (id : Data) → (updates : Data) → update_text (compact_text id) updates
+        ≡ message_text (Notification (codes "update") (list (id ∷ updates ∷ []))) }
+{}
+
+/// Monitors' names are compared as compact texts, and these are equal only where the names are equal values: for values whose
+/// numbers are whole ones of 64 bits.
+pub fn names_are_values()
+    ensures { (a b : Data) → IsWhole a → IsWhole b → compact_text a ≡ compact_text b → a ≡ b }
 {}

@@ -7,37 +7,39 @@ mod laws;
 mod methods;
 mod monitoring;
 mod monitors;
+mod open_monitors;
 mod ports;
 mod replies;
 mod streams;
 mod vtep;
-mod watches;
 
 pub use gateway::Gateway;
 pub use laws::{
-    failed_changes_nothing, refused_changes_nothing, unfinished_changes_nothing,
+    failed_changes_nothing, names_are_values, refused_changes_nothing, unfinished_changes_nothing,
     updates_are_notifications,
 };
 use rpc_framing::Framing;
 use vtep_base::{Bytes, List, Name};
 
-/// What comes to a gateway.
+/// What comes to a gateway. Sessions have numbers; 0 is the controller's.
 #[derive(Debug, Drop)]
 pub enum Event {
-    /// A piece of the bytes of a session. The first one opens it.
+    /// A piece of the bytes of a session, which may end anywhere in a message. The first one opens the session.
     Bytes { session: u32, piece: Bytes },
-    /// A session ends.
+    /// A session ends, and its monitors with it.
     Hangup { session: u32 },
-    /// A port is added.
+    /// A port of this name is added: a row of Physical_Port, which the row of Physical_Switch names.
     Port { name: Name },
-    /// A port is taken away.
+    /// The port of this name is taken away.
     Unport { name: Name },
 }
 
 /// A message that goes to a session.
 #[derive(Debug, Drop)]
 pub struct Outgoing {
+    /// The number of the session that it goes to; 0 is the controller's.
     pub session: u32,
+    /// The message as one compact JSON text, in UTF-8 (RFC 7047, section 4; RFC 8259).
     pub bytes: Bytes,
 }
 
@@ -57,14 +59,11 @@ pub enum EventRefused {
 /// What a gateway does with an event.
 #[derive(Debug, Drop)]
 pub struct Answer {
-    /// The messages that go out, in order.
+    /// The messages that go out, in order. The updates that a request makes stand before its reply.
     pub sends: List<Outgoing>,
-    /// The refusal of the session that the piece came to.
+    /// The refusal of the stream that the piece came to: its place, counted in bytes from the session's first one, and why. Each
+    /// later piece of the session has the same one.
     pub failed: Option<Framing>,
+    /// Why the event changes nothing, where it is refused. Pieces never are.
     pub refused: Option<EventRefused>,
 }
-
-#[cfg(test)]
-mod monitor_tests;
-#[cfg(test)]
-mod tests;

@@ -81,7 +81,8 @@ fn transacted(
     rows: &Rows,
     params: &Value,
 ) -> Result<(Value, Option<Rows>), OutOfMemory>
-    ensures value { IfOk result (λ t. transacted (means (ops_in (view params.now)) rows.now) ≡ (view t.0, t.1)) }
+    ensures value { IfOk result (λ t. transacted (means (ops_in (view params.now)) rows.now)
+        ≡ (view t.0, t.1)) }
     ensures plain { IfOk result (λ t. has_float (view t.0) ≡ false) }
 {
     let ops = read_ops(alloc, params)?;
@@ -110,9 +111,14 @@ impl Vtep {
         params: &Value,
         sends: &mut List<Outgoing>,
     ) -> Result<Result<Value, Word>, OutOfMemory>
-        ensures left { IfOk result (λ _. self.new ≡ (transact_in self.old (view params.now) (in_database (view params.now))).vtep) }
-        ensures before { IfOk result (λ _. sends.new ≡ sends.old ++ (transact_in self.old (view params.now) (in_database (view params.now))).before) }
-        ensures result { IfOk result (λ r. seen r ≡ (transact_in self.old (view params.now) (in_database (view params.now))).result) }
+        ensures left { IfOk result (λ _. self.new
+            ≡ (transact_in self.old (view params.now) (in_database (view params.now))).vtep) }
+        ensures before { IfOk result
+            (λ _. sends.new ≡ sends.old
+            ++ (transact_in self.old (view params.now) (in_database (view params.now))).before) }
+        ensures result { IfOk result
+            (λ r. seen r ≡ (transact_in self.old (view params.now)
+            (in_database (view params.now))).result) }
         ensures plain { IfOk result (λ r. IfOk r (λ v. has_float (view v) ≡ false)) }
     {
         if let Err(word) = in_database(params) {
@@ -132,9 +138,12 @@ impl Vtep {
         sends: &mut List<Outgoing>,
     ) -> Result<Result<Value, Word>, OutOfMemory>
         requires plain { has_float (view params) ≡ false }
-        ensures left { IfOk result (λ _. self.new ≡ (called self.old session method (view params)).vtep) }
-        ensures before { IfOk result (λ _. sends.new ≡ sends.old ++ (called self.old session method (view params)).before) }
-        ensures result { IfOk result (λ r. seen r ≡ (called self.old session method (view params)).result) }
+        ensures left { IfOk result (λ _. self.new
+            ≡ (called self.old session method (view params)).vtep) }
+        ensures before { IfOk result
+            (λ _. sends.new ≡ sends.old ++ (called self.old session method (view params)).before) }
+        ensures result { IfOk result
+            (λ r. seen r ≡ (called self.old session method (view params)).result) }
         ensures plain { IfOk result (λ r. IfOk r (λ v. has_float (view v) ≡ false)) }
     {
         match method {

@@ -5,12 +5,12 @@ ghost use Rattle.serde_json.specs.View.{view};
 ghost use Rattle.serde_json.specs.Written.{has_float};
 ghost use Rattle.monitor_updates.specs.Requests.{IsRefusal};
 ghost use Rattle.monitor_updates.specs.Updates.{opening_json};
-ghost use Rattle.vtep_gateway.specs.Methods.{watch_for, monitor_in, cancel_in, seen};
+ghost use Rattle.vtep_gateway.specs.Methods.{monitor_for, monitor_in, cancel_in, seen};
 ghost use Rattle.vtep_gateway.specs.Monitors.{asks, one_of, others, left_by};
 
 use crate::methods::in_database;
+use crate::open_monitors::{OpenMonitor, is_free, is_open, name_text};
 use crate::vtep::Vtep;
-use crate::watches::{Watch, is_free, is_open, name_text};
 use monitor_updates::{Monitor, MonitorFault};
 use serde_json::{Map, Value};
 use std::alloc::Global;
@@ -42,39 +42,44 @@ fn one_of(params: &Value) -> Option<&Value>
 }
 
 /// The monitor that the parameters ask for beside these, and the rows that are there, as it is told of them.
-fn watch_for(
+fn monitor_for(
     alloc: Global,
     rows: &Rows,
-    watches: &[Watch],
+    monitors: &[OpenMonitor],
     params: &Value,
-) -> Result<(Watch, Value), MonitorFault>
+) -> Result<(OpenMonitor, Value), MonitorFault>
     requires plain { has_float (view params.now) ≡ false }
-    ensures ok { IfOk result (λ r. watch_for watches.now (view params.now) ≡ Ok r.0) }
+    ensures ok { IfOk result (λ r. monitor_for monitors.now (view params.now) ≡ Ok r.0) }
     ensures reply { IfOk result (λ r. view r.1 ≡ opening_json r.0.request rows.now) }
     ensures plain { IfOk result (λ r. has_float (view r.1) ≡ false) }
-    ensures err { IfErr result (λ f. IsRefusal f (watch_for watches.now (view params.now))) }
+    ensures err { IfErr result (λ f. IsRefusal f (monitor_for monitors.now (view params.now))) }
 {
     let Some((id, requests)) = asks(params) else {
         return Err(MonitorFault::Word(Word::SyntaxError));
     };
     in_database(params)?;
     let name = name_text(alloc, id)?;
-    is_free(watches, name.as_str())?;
+    is_free(monitors, name.as_str())?;
     let (monitor, reply) = Monitor::open(alloc, rows, id, requests)?;
-    Ok((Watch { name, monitor }, reply))
+    Ok((OpenMonitor { name, monitor }, reply))
 }
 
 /// The name of the monitor that the parameters name.
-fn to_cancel(alloc: Global, watches: &[Watch], params: &Value) -> Result<String, MonitorFault>
+fn to_cancel(
+    alloc: Global,
+    monitors: &[OpenMonitor],
+    params: &Value,
+) -> Result<String, MonitorFault>
     requires plain { has_float (view params.now) ≡ false }
-    ensures ok { IfOk result (λ name. left_by watches.now (view params.now) ≡ Ok (others watches.now (string_bytes name))) }
-    ensures err { IfErr result (λ f. IsRefusal f (left_by watches.now (view params.now))) }
+    ensures ok { IfOk result (λ name. left_by monitors.now (view params.now)
+        ≡ Ok (others monitors.now (string_bytes name))) }
+    ensures err { IfErr result (λ f. IsRefusal f (left_by monitors.now (view params.now))) }
 {
     let Some(id) = one_of(params) else {
         return Err(MonitorFault::Word(Word::SyntaxError));
     };
     let name = name_text(alloc, id)?;
-    if !is_open(watches, name.as_str()) {
+    if !is_open(monitors, name.as_str()) {
         return Err(MonitorFault::Word(Word::UnknownMonitor));
     }
     Ok(name)
@@ -88,14 +93,16 @@ impl Vtep {
         params: &Value,
     ) -> Result<Result<Value, Word>, OutOfMemory>
         requires plain { has_float (view params.now) ≡ false }
-        ensures left { IfOk result (λ _. self.new ≡ (monitor_in self.old session (view params.now)).vtep) }
+        ensures left { IfOk result (λ _. self.new
+            ≡ (monitor_in self.old session (view params.now)).vtep) }
         ensures quiet { (monitor_in self.old session (view params.now)).before ≡ [] }
-        ensures result { IfOk result (λ r. seen r ≡ (monitor_in self.old session (view params.now)).result) }
+        ensures result { IfOk result
+            (λ r. seen r ≡ (monitor_in self.old session (view params.now)).result) }
         ensures plain { IfOk result (λ r. IfOk r (λ v. has_float (view v) ≡ false)) }
     {
-        match watch_for(self.alloc, &self.rows, self.monitors.of(session), params) {
-            Ok((watch, reply)) => {
-                self.monitors.add(session, watch)?;
+        match monitor_for(self.alloc, &self.rows, self.monitors.of(session), params) {
+            Ok((monitor, reply)) => {
+                self.monitors.add(session, monitor)?;
                 Ok(Ok(reply))
             }
             Err(MonitorFault::Word(word)) => Ok(Err(word)),
@@ -110,9 +117,11 @@ impl Vtep {
         params: &Value,
     ) -> Result<Result<Value, Word>, OutOfMemory>
         requires plain { has_float (view params.now) ≡ false }
-        ensures left { IfOk result (λ _. self.new ≡ (cancel_in self.old session (view params.now)).vtep) }
+        ensures left { IfOk result (λ _. self.new
+            ≡ (cancel_in self.old session (view params.now)).vtep) }
         ensures quiet { (cancel_in self.old session (view params.now)).before ≡ [] }
-        ensures result { IfOk result (λ r. seen r ≡ (cancel_in self.old session (view params.now)).result) }
+        ensures result { IfOk result
+            (λ r. seen r ≡ (cancel_in self.old session (view params.now)).result) }
         ensures plain { IfOk result (λ r. IfOk r (λ v. has_float (view v) ≡ false)) }
     {
         match to_cancel(self.alloc, self.monitors.of(session), params) {

@@ -4,10 +4,10 @@ ghost use Rattle.std.specs.Prelude.{◌≡◌, ◌++◌, OnOk};
 ghost use Rattle.vtep_base.specs.Maps as maps;
 ghost use Rattle.vtep_rows.specs.Rows.{Rows as AllRows};
 ghost use Rattle.vtep_rows.specs.Changes.{changes};
-ghost use Rattle.vtep_gateway.specs.Monitors.{watches_of, with_watch, others, told_all};
+ghost use Rattle.vtep_gateway.specs.Monitors.{monitors_of, with_monitor, others, told_all};
 
 use crate::Outgoing;
-use crate::watches::{Watch, others, tell_each};
+use crate::open_monitors::{OpenMonitor, others, tell_each};
 use std::alloc::Global;
 use std::collections::BTreeMap;
 use std::collections::btree_map::Iter;
@@ -19,7 +19,7 @@ use vtep_rows::Change;
 #[derive(Drop)]
 pub(crate) struct Monitors {
     alloc: Global,
-    by_session: BTreeMap<u32, List<Watch>>,
+    by_session: BTreeMap<u32, List<OpenMonitor>>,
 }
 
 impl Model for Monitors {
@@ -45,59 +45,60 @@ impl Monitors {
     }
 
     /// The monitors of a session.
-    pub(crate) fn of(&self, session: u32) -> &[Watch]
-        ensures { result.now ≡ watches_of self.now session }
+    pub(crate) fn of(&self, session: u32) -> &[OpenMonitor]
+        ensures { result.now ≡ monitors_of self.now session }
     {
         match self.by_session.get(&session) {
-            Some(watches) => watches.as_slice(),
+            Some(monitors) => monitors.as_slice(),
             None => &[],
         }
     }
 
     /// Takes the monitors of a session out.
-    fn take(&mut self, session: u32) -> List<Watch>
-        ensures watches { result ≡ watches_of self.old session }
+    fn take(&mut self, session: u32) -> List<OpenMonitor>
+        ensures monitors { result ≡ monitors_of self.old session }
         ensures left { self.new ≡ maps.remove self.old session }
     {
         match self.by_session.remove(&session) {
-            Some(watches) => watches,
+            Some(monitors) => monitors,
             None => List::new(self.alloc),
         }
     }
 
     /// Puts the monitors of a session in.
-    fn put(&mut self, session: u32, watches: List<Watch>) -> Result<(), OutOfMemory>
-        ensures { OnOk result (self.new ≡ maps.insert self.old session watches) }
+    fn put(&mut self, session: u32, monitors: List<OpenMonitor>) -> Result<(), OutOfMemory>
+        ensures { OnOk result (self.new ≡ maps.insert self.old session monitors) }
     {
-        self.by_session.insert(session, watches)?;
+        self.by_session.insert(session, monitors)?;
         Ok(())
     }
 
     /// Adds a monitor to those of a session.
-    pub(crate) fn add(&mut self, session: u32, watch: Watch) -> Result<(), OutOfMemory>
-        ensures { OnOk result (self.new ≡ with_watch self.old session watch) }
+    pub(crate) fn add(&mut self, session: u32, monitor: OpenMonitor) -> Result<(), OutOfMemory>
+        ensures { OnOk result (self.new ≡ with_monitor self.old session monitor) }
     {
-        let mut watches = self.take(session);
-        watches.push(watch)?;
-        self.put(session, watches)
+        let mut monitors = self.take(session);
+        monitors.push(monitor)?;
+        self.put(session, monitors)
     }
 
     /// Takes the monitor of this name away from those of a session.
     pub(crate) fn cancel(&mut self, session: u32, name: &str) -> Result<(), OutOfMemory>
-        ensures { OnOk result (self.new ≡ maps.insert self.old session (others (watches_of self.old session) name.now)) }
+        ensures { OnOk result (self.new
+            ≡ maps.insert self.old session (others (monitors_of self.old session) name.now)) }
     {
-        let watches = self.take(session);
-        self.put(session, others(watches, name))
+        let monitors = self.take(session);
+        self.put(session, others(monitors, name))
     }
 
     /// Takes all monitors of a session away.
     pub(crate) fn close(&mut self, session: u32)
         ensures { self.new ≡ maps.remove self.old session }
     {
-        let _watches = self.take(session);
+        let _monitors = self.take(session);
     }
 
-    fn iter(&self) -> Iter<'_, u32, List<Watch>>
+    fn iter(&self) -> Iter<'_, u32, List<OpenMonitor>>
         ensures { result ≡ self.now.list }
     {
         self.by_session.iter()
@@ -110,10 +111,11 @@ impl Monitors {
         change: &Change,
         sends: &mut List<Outgoing>,
     ) -> Result<(), OutOfMemory>
-        ensures { (old : AllRows) → (new : AllRows) → change.now ≡ changes old new → OnOk result (sends.new ≡ sends.old ++ told_all old new self.now) }
+        ensures { (old : AllRows) → (new : AllRows) → change.now ≡ changes old new
+            → OnOk result (sends.new ≡ sends.old ++ told_all old new self.now) }
     {
-        'sessions: for (session, watches) in self.iter() {
-            tell_each(alloc, *session, watches.as_slice(), change, sends)?;
+        'sessions: for (session, monitors) in self.iter() {
+            tell_each(alloc, *session, monitors.as_slice(), change, sends)?;
         }
         Ok(())
     }

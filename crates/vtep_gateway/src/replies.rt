@@ -81,7 +81,8 @@ impl Vtep {
     ) -> Result<(), OutOfMemory>
         requires plain { has_float (message_json (said message)) ≡ false }
         ensures left { OnOk result (self.new ≡ (take self.old session (said message)).vtep) }
-        ensures sends { OnOk result (sends.new ≡ sends.old ++ (take self.old session (said message)).sends) }
+        ensures sends { OnOk result (sends.new ≡ sends.old
+            ++ (take self.old session (said message)).sends) }
     {
         let Message::Request { method, params, id } = message else {
             return Ok(());
@@ -97,8 +98,10 @@ impl Vtep {
         framer: &mut Framer,
         sends: &mut List<Outgoing>,
     ) -> Result<Option<Framing>, OutOfMemory>
-        ensures left { IfOk result (λ _. self.new ≡ (take_all self.old session (come framer.old).messages).vtep) }
-        ensures sends { IfOk result (λ _. sends.new ≡ sends.old ++ (take_all self.old session (come framer.old).messages).sends) }
+        ensures left { IfOk result (λ _. self.new
+            ≡ (take_all self.old session (come framer.old).messages).vtep) }
+        ensures sends { IfOk result (λ _. sends.new ≡ sends.old
+            ++ (take_all self.old session (come framer.old).messages).sends) }
         ensures end { IfOk result (λ _. framer.new ≡ (come framer.old).end) }
         ensures failed { IfOk result (λ failed. failed ≡ framer.new.refused) }
     {

@@ -42,7 +42,8 @@ impl Vtep {
         sends: &mut List<Outgoing>,
     ) -> Result<(), OutOfMemory>
         ensures left { OnOk result (self.new ≡ with_rows self.old rows) }
-        ensures told { OnOk result (sends.new ≡ sends.old ++ told_all self.old.rows rows self.old.monitors) }
+        ensures told { OnOk result (sends.new ≡ sends.old
+            ++ told_all self.old.rows rows self.old.monitors) }
     {
         let change = changes(self.alloc, &self.rows, &rows)?;
         self.monitors.tell(self.alloc, &change, sends)?;

@@ -71,7 +71,7 @@ module _ {A : Type 0} where
         | false ↦ any_filter p q xs
       ]
 
-  any_filter_so : (p q : A → Bool) (xs : List A) → list_any p (filter q xs) ≡ true → list_any p xs ≡ true
+  pub any_filter_so : (p q : A → Bool) (xs : List A) → list_any p (filter q xs) ≡ true → list_any p xs ≡ true
   any_filter_so p q [] h = h
   any_filter_so p q (x ∷ xs) h =
       elim (q x) as (λ b. list_any p (cond b (x ∷ filter q xs) (filter q xs)) ≡ true → (p x || list_any p xs) ≡ true) [
@@ -347,7 +347,7 @@ through true true false so = refl
 through true false false so = refl
 through false s t so = refl
 
-exact_in : (n : ℕ) (m : Map key_cmp Contents) → length m.list ≤ n → IsExact m (collected_in n m)
+pub exact_in : (n : ℕ) (m : Map key_cmp Contents) → length m.list ≤ n → IsExact m (collected_in n m)
 exact_in zero m h k = let none : maps.has m k ≡ false = nothing_in m k m.list refl h in none ∙ sym (ap (λ b. b && stays m k) none)
 exact_in (suc n) m h k = round (λ fewer. exact_in n (maps.keep (stays m) m) fewer k) (nat_le (length (maps.keep (stays m) m).list) n) refl
   where

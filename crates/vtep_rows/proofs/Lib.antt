@@ -1,9 +1,23 @@
 pub mod Entries
+pub mod FieldLists
 pub mod Texts
 pub mod RowLaws
 pub mod Kept
 pub mod Breaches
+pub mod Anys
 pub mod Collected
 pub mod ChangeProofs
 pub mod SoundLaws
+pub mod Restored
+pub mod Touched
+pub mod TallyLaws
+pub mod NameCounts
+pub mod Places
+pub mod MarkCounts
+pub mod Sums
+pub mod IndexLaws
+pub mod TouchedBreaches
+pub mod TouchedCollected
+pub mod TwinLaws
+pub mod KeyedLaws
 mod Worked

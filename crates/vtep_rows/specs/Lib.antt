@@ -5,4 +5,13 @@ pub mod Faults
 pub mod Sound
 pub mod Changes
 pub mod ChangeCodes
+pub mod Database
 pub mod Orders
+pub mod Tallies
+pub mod Places
+pub mod Names
+pub mod NameOrders
+pub mod Indexes
+pub mod Marks
+pub mod MarkOrders
+pub mod Keyed

@@ -1,14 +1,18 @@
 //! All rows of a gateway.
 
-ghost use Rattle.std.specs.Prelude.{◌≡◌, map, ◌<◌, ◌≤◌, ◌^◌, length, [], true, None, Some, is_some, option_map, filter, IfOk, IfErr, IfSome, OnOk, OnErr};
+ghost use Rattle.std.specs.Prelude.{◌≡◌, ◌==◌, ◌&&◌, not, map, ◌<◌, ◌≤◌, ◌^◌, length, [], true, None, Some, is_some, option_map, filter, IfOk, IfErr, IfSome, OnOk, OnErr};
+ghost use Rattle.std.specs.List.{list_any};
 ghost use Rattle.vtep_base.specs.Maps as maps;
 ghost use Rattle.vtep_schema.specs.Tables.{same_table};
-ghost use Rattle.vtep_rows.specs.Row.{is_row};
-ghost use Rattle.vtep_rows.specs.Rows.{row_id, next_id, last_number, row_at, rows_of, ids_of, opening, inserted, replaced, removed, unnamed_from, collected, IsRows};
+ghost use Rattle.vtep_rows.specs.Row.{is_row, first};
+ghost use Rattle.vtep_rows.specs.Rows.{row_id, next_id, last_number, row_at, rows_of, ids_of, opening, inserted, replaced, removed, unnamed_from, collected, is_given, names, is_named, IsRows};
+ghost use Rattle.vtep_rows.specs.Marks.{agree_at};
+ghost use Rattle.vtep_rows.specs.Keyed.{holds, first_key};
 ghost use Rattle.vtep_rows.specs.Faults.{IsSpentOrMemory};
 
+use crate::indexed::Indexed;
 use crate::row::Row;
-use crate::store::Store;
+use ovsdb_values::Atom;
 use std::alloc::Global;
 use std::collections::btree_map::{Iter, Range};
 use std::marker::Model;
@@ -21,7 +25,7 @@ pub struct Rows {
     alloc: Global,
     made: u32,
     counter: u64,
-    rows: Store,
+    rows: Indexed,
 }
 
 impl Model for Rows {
@@ -112,7 +116,7 @@ impl Rows {
             alloc,
             made: ip.bits(),
             counter: 0,
-            rows: Store::new(alloc),
+            rows: Indexed::new(alloc),
         };
         let global = Row::global(alloc, rows.id(2))?;
         let switch = Row::switch(alloc, name, ip)?;
@@ -168,10 +172,42 @@ impl Rows {
         self.rows.of_table(table)
     }
 
-    pub(crate) fn count(&self, table: Table) -> usize
+    pub(crate) fn count(&self, table: Table) -> u64
         ensures { result ≡ length (filter (λ e. same_table e.0.0 table) self.now.rows.list) }
     {
         self.rows.count(table)
+    }
+
+    /// Whether a row of a table names a row. Takes no memory, and one look-up.
+    pub fn names(&self, table: Table, of: Table, id: RowId) -> bool
+        ensures { result ≡ list_any (λ row. names row.1 (of, id)) (rows_of table self.now) }
+    {
+        self.rows.names(table, of, id)
+    }
+
+    /// The first row of a table, by identifier, that has these atoms in the columns of the table's first unique key; none where
+    /// the table has no unique key. Takes no memory; a look-up, and time for the rows with the key's stamp.
+    pub fn keyed(&self, table: Table, key: &[Atom]) -> Option<RowId>
+        ensures { result ≡ first (map (λ row. row.0)
+            (filter (λ row. holds (first_key table) key.now row.1) (rows_of table self.now))) }
+    {
+        self.rows.keyed(table, key)
+    }
+
+    /// Whether any row names a row. Takes no memory, and a look-up for each table.
+    pub(crate) fn is_named(&self, table: Table, id: RowId) -> bool
+        ensures { result ≡ is_named self.now.rows (table, id) }
+    {
+        self.rows.is_named(table, id)
+    }
+
+    /// Whether another row of the table has the row's unique key of this place. Takes no memory; time for the rows with the
+    /// key's stamp.
+    pub(crate) fn shares_key(&self, table: Table, place: u8, id: RowId, row: &Row) -> bool
+        ensures { result ≡ list_any (λ other. not (other.0 == id)
+            && agree_at table place row.now other.1) (rows_of table self.now) }
+    {
+        self.rows.shares_key(table, place, id, row)
     }
 
     pub(crate) fn iter(&self) -> Iter<'_, (Table, RowId), Row>
@@ -233,7 +269,7 @@ impl Rows {
         ensures err { OnErr result (self.new ≡ self.old) }
     {
         let id = row_id(self.made, self.counter + 1);
-        self.rows.put(row.table(), id, row)?;
+        self.rows.put(self.alloc, row.table(), id, row)?;
         self.counter += 1;
         Ok(id)
     }
@@ -245,8 +281,33 @@ impl Rows {
         ensures ok { OnOk result (self.new ≡ replaced self.old (table, id) row) }
         ensures err { OnErr result (self.new ≡ self.old) }
     {
-        self.rows.put(row.table(), id, row)?;
+        self.rows.put(self.alloc, row.table(), id, row)?;
         Ok(())
+    }
+
+    /// Puts a row at an identifier that was given, and gives the one that stood there. After an `Err` the rows are as they were.
+    pub(crate) fn put(
+        &mut self,
+        table: Table,
+        id: RowId,
+        row: Row,
+    ) -> Result<Option<Row>, OutOfMemory>
+        requires table { row.table ≡ table }
+        requires given { is_given self.old id ≡ true }
+        ensures ok { OnOk result (self.new ≡ replaced self.old (table, id) row) }
+        ensures before { IfOk result (λ old. old ≡ row_at self.old (table, id)) }
+        ensures err { OnErr result (self.new ≡ self.old) }
+    {
+        let old = self.rows.put(self.alloc, row.table(), id, row)?;
+        Ok(old)
+    }
+
+    /// Another counter, under which each identifier was given.
+    pub(crate) fn set_counter(&mut self, counter: u64)
+        requires { IsRows (record self.old { counter = counter }) }
+        ensures { self.new ≡ record self.old { counter = counter } }
+    {
+        self.counter = counter;
     }
 
     /// Takes a row away, and gives it. Takes no memory.

@@ -75,7 +75,8 @@ pub fn written_by_sessions(column: Column) -> bool
 
 /// A table that is open to sessions has the column.
 fn is_open_column(among: &[Table], column: Column) -> bool
-    ensures { result ≡ list_any (λ t. (table_rule t).open_to_sessions && belongs column t) among.now }
+    ensures { result ≡ list_any (λ t. (table_rule t).open_to_sessions && belongs column t)
+        among.now }
 {
     'among: for table in among {
         if table_rule(*table).open_to_sessions && belongs(column, *table) {

@@ -97,7 +97,8 @@ fn column_json(alloc: Global, rule: ColumnRule) -> Result<Value, OutOfMemory>
 }
 
 fn columns_json(alloc: Global, columns: &[Column]) -> Result<Map<String, Value>, OutOfMemory>
-    ensures { IfOk result (λ m. members_view m.entries ≡ to_members (map (λ c. (column_name c, column_json (column_rule c))) columns.now)) }
+    ensures { IfOk result (λ m. members_view m.entries
+        ≡ to_members (map (λ c. (column_name c, column_json (column_rule c))) columns.now)) }
 {
     let mut members = Map::new(alloc);
     'columns: for column in columns.iter().rev() {
@@ -108,7 +109,8 @@ fn columns_json(alloc: Global, columns: &[Column]) -> Result<Map<String, Value>,
 }
 
 fn keys_json(alloc: Global, keys: &[&[Column]]) -> Result<Value, OutOfMemory>
-    ensures { IfOk result (λ v. view v ≡ list (map (λ cs. words (map column_name cs)) (map (λ k. k.now) keys.now))) }
+    ensures { IfOk result (λ v. view v
+        ≡ list (map (λ cs. words (map column_name cs)) (map (λ k. k.now) keys.now))) }
 {
     let mut items = Vec::new(alloc);
     'keys: for key in keys {
@@ -152,7 +154,8 @@ fn table_json(alloc: Global, table: Table) -> Result<Value, OutOfMemory>
 }
 
 fn tables_json(alloc: Global, tables: &[Table]) -> Result<Map<String, Value>, OutOfMemory>
-    ensures { IfOk result (λ m. members_view m.entries ≡ to_members (map (λ t. (table_name t, table_json t)) tables.now)) }
+    ensures { IfOk result (λ m. members_view m.entries
+        ≡ to_members (map (λ t. (table_name t, table_json t)) tables.now)) }
 {
     let mut members = Map::new(alloc);
     'tables: for table in tables.iter().rev() {

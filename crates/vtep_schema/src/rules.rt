@@ -7,16 +7,20 @@ use crate::{Column, Table};
 /// Texts of which a column holds one.
 #[derive(Clone, Copy, Debug, PartialEq, Eq)]
 pub enum Words {
+    /// `encapsulation_type`: `vxlan_over_ipv4`.
     Encapsulations,
+    /// `replication_mode`: `service_node` or `source_node`.
     ReplicationModes,
+    /// `direction`: `ingress` or `egress`.
     Directions,
+    /// `action`: `permit` or `deny`.
     Actions,
 }
 
 /// What an atom of a column may be.
 #[derive(Clone, Copy, Debug, PartialEq, Eq)]
 pub enum Domain {
-    /// A number from the least to the most.
+    /// A whole number from the least to the most, both included.
     Whole { least: u32, most: u32 },
     /// Any text of at most 255 bytes.
     Text,
@@ -50,12 +54,15 @@ pub enum Given {
 /// What a column holds: a set of atoms, or a map where `value` is there.
 #[derive(Clone, Copy, Debug, PartialEq, Eq)]
 pub struct ColumnRule {
+    /// What an atom of the set, or a key of the map, may be.
     pub key: Domain,
+    /// What a value of the map may be; None for a set.
     pub value: Option<Domain>,
     /// The least size of the set or the map.
     pub least: u32,
     /// The greatest size of the set or the map.
     pub most: u32,
+    /// When it is written.
     pub given: Given,
 }
 
@@ -64,6 +71,7 @@ pub struct ColumnRule {
 pub struct TableRule {
     /// Its rows stay where nothing names them.
     pub root: bool,
+    /// The most rows.
     pub most: u64,
     /// Sessions insert and delete rows, and write all columns.
     pub open_to_sessions: bool,

@@ -40,16 +40,22 @@ pub enum PacketKind {
 /// Where bytes are no packet, and why: the first fault.
 #[derive(Clone, Copy, Debug, PartialEq, Eq)]
 pub struct PacketFault {
+    /// The byte at fault, counted from the packet's first byte.
     pub offset: usize,
+    /// The fault.
     pub kind: PacketKind,
 }
 
 /// What a packet says: its addresses, its network, and the frame that it carries.
 #[derive(Debug, Drop)]
 pub struct Packet<'a> {
+    /// The source of the IPv4 header.
     pub src: Ipv4,
+    /// The destination of the IPv4 header.
     pub dst: Ipv4,
+    /// The network.
     pub vni: Vni,
+    /// The frame, without tag.
     pub inner: Inner<'a>,
 }
 
@@ -194,7 +200,8 @@ fn check_udp(bytes: &[u8]) -> Result<(), PacketFault>
     requires total { total_length bytes.now ≤ length bytes.now }
     ensures value { result ≡ udp_checked bytes.now }
     ensures headers { IfOk result (λ _. 16 ≤ udp_length bytes.now) }
-    ensures within { IfOk result (λ _. header_length bytes.now + udp_length bytes.now ≤ length bytes.now) }
+    ensures within { IfOk result (λ _. header_length bytes.now + udp_length bytes.now
+        ≤ length bytes.now) }
 {
     let header = header_length(bytes);
     let total = total_length(bytes);
@@ -248,14 +255,17 @@ pub fn decode(bytes: &[u8]) -> Result<Packet<'_>, PacketFault>
     ensures only { (src dst vni : ℕ) (inner : List ℕ) → IsPacket bytes.now src dst vni inner
         → IsOkAnd result (λ p. (p.src ≡ src) × (p.dst ≡ dst) × (p.vni ≡ vni) × (p.inner ≡ inner)) }
     // Which fault it is.
-    ensures exact { MatchResult result (λ p. packet_of bytes.now ≡ Ok (p.src, p.dst, p.vni, p.inner)) (λ e. packet_of bytes.now ≡ Err e) }
+    ensures exact { MatchResult result
+        (λ p. packet_of bytes.now ≡ Ok (p.src, p.dst, p.vni, p.inner))
+        (λ e. packet_of bytes.now ≡ Err e) }
 {
     decode_exactly(bytes)
 }
 
 #[tactic(auto, unfolding(crate::specs::Packets::packet_of))]
 fn decode_exactly(bytes: &[u8]) -> Result<Packet<'_>, PacketFault>
-    ensures { MatchResult result (λ p. packet_of bytes.now ≡ Ok (p.src, p.dst, p.vni, p.inner)) (λ e. packet_of bytes.now ≡ Err e) }
+    ensures { MatchResult result (λ p. packet_of bytes.now ≡ Ok (p.src, p.dst, p.vni, p.inner))
+        (λ e. packet_of bytes.now ≡ Err e) }
 {
     check_lengths(bytes)?;
     check_header(bytes)?;
@@ -407,11 +417,10 @@ pub fn encode_within(src: Ipv4, dst: Ipv4, vni: Vni, inner: &Inner<'_>, out: &mu
 
 /// A law: the written form is a packet that says what it was made of, and decoding it gives that back.
 pub fn written_is_decoded()
-    ensures packet { (src dst vni : ℕ) (inner : List ℕ) → src < 2 ^ 32 → dst < 2 ^ 32 → vni < 2 ^ 24 → IsInner inner
+    ensures packet { (src dst vni : ℕ) (inner : List ℕ) → src < 2 ^ 32 → dst < 2 ^ 32 → vni < 2 ^ 24
+        → IsInner inner
         → IsPacket (canon src dst vni inner) src dst vni inner }
-    ensures decoded { (src dst vni : ℕ) (inner : List ℕ) → src < 2 ^ 32 → dst < 2 ^ 32 → vni < 2 ^ 24 → IsInner inner
+    ensures decoded { (src dst vni : ℕ) (inner : List ℕ) → src < 2 ^ 32 → dst < 2 ^ 32 → vni
+        < 2 ^ 24 → IsInner inner
         → packet_of (canon src dst vni inner) ≡ Ok (src, dst, vni, inner) }
 {}
-
-#[cfg(test)]
-mod tests;

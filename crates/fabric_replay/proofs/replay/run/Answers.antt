@@ -8,8 +8,8 @@ use Rattle.fabric_replay.proofs.replay.run.Goals as goal
 
 pub returns-in-Some-clause-complete : goal.returns-in-Some-clause-complete
 returns-in-Some-clause-complete g c form =
-    completes_asked (form_of (map string_bytes c.args.words.now.items)) c.in-Some.form form _ _ _ _ c.run_text.result
-    (ap (λ w. form_of (map string_bytes w)) (sym c.as_slice.ensures.value) ∙ sym c.form_of.ensures ∙ c.in-Some.is) c.run_text.ensures
+    completes_asked (form_of (map string_bytes c.args.words.now.items)) c.in-Some.form form _ _ _ _ c.run_lines.result
+    (ap (λ w. form_of (map string_bytes w)) (sym c.as_slice.ensures.value) ∙ sym c.form_of.ensures ∙ c.in-Some.is) c.run_lines.ensures
 
 pub returns-in-Some-clause-delivers : goal.returns-in-Some-clause-delivers
 returns-in-Some-clause-delivers g c = delivers_installed

@@ -1,17 +1,15 @@
 use Rattle.std.proofs.Common.{◌≡◌, length}
-use Rattle.fabric_world.specs.Script.{first_of}
-use Rattle.fabric_replay.specs.Stages.{stage_of}
 use Rattle.fabric_replay.specs.Outcomes.{SoFar}
 use Rattle.fabric_replay.proofs.replay.run_text.Given as goal
 
 abbrev pub invariant-piece : goal.invariant-piece
 invariant-piece g l = record {
-  so_far : SoFar (first_of l.fn.form)
+  so_far : SoFar (g.R.Reader.meaning l.fn.reader)
       (record { left = g.S.Source.left l.fn.source; taken = g.S.Source.taken l.fn.source; faults = g.S.Source.faults l.fn.source; ends = g.S.Source.ends l.fn.source })
       (record { left = g.S.Source.left l.source; taken = g.S.Source.taken l.source; faults = g.S.Source.faults l.source; ends = g.S.Source.ends l.source })
       (record { written = g.K.Sink.written l.fn.sink; faults = g.K.Sink.faults l.fn.sink })
       (record { written = g.K.Sink.written l.sink; faults = g.K.Sink.faults l.sink })
-      (stage_of l.script.state) l.script.front.items l.script.state.number l.left;
+      (g.R.Reader.meaning l.reader) (g.R.Reader.number l.reader) l.left;
   room : length l.buffer.items ≡ 4096;
 }
 

@@ -2,7 +2,7 @@ use Rattle.std.proofs.Common.{◌≡◌, ℕ, List, ◌++◌}
 use Rattle.std.specs.List.{filter_map}
 use Rattle.serde_json.specs.View.{members_view}
 use Rattle.json_notation.specs.Json.{to_members}
-use Rattle.monitor_updates.specs.Told.{there_member}
+use Rattle.monitor_updates.specs.OneRow.{there_member}
 use Rattle.monitor_updates.proofs.opening.rows_there.Given as goal
 
 abbrev pub invariant-ids : goal.invariant-ids

@@ -7,7 +7,7 @@ use Rattle.vtep_schema.specs.Tables.{tables}
 use Rattle.vtep_rows.specs.Rows.{ids_of}
 use Rattle.monitor_updates.specs.Noted.{asked_of}
 use Rattle.monitor_updates.specs.Updates.{table_member}
-use Rattle.monitor_updates.specs.Told.{initial_member}
+use Rattle.monitor_updates.specs.OneRow.{initial_member}
 use Rattle.monitor_updates.proofs.opening.tables_there.Given as goal
 
 abbrev pub invariant-tables : goal.invariant-tables

@@ -1,6 +1,6 @@
 use Rattle.std.proofs.Common.{◌≡◌, drop}
 use Rattle.monitor_updates.specs.Noted.{cut, differing}
-use Rattle.monitor_updates.specs.Told.{is_any}
+use Rattle.monitor_updates.specs.OneRow.{is_any}
 use Rattle.monitor_updates.proofs.updates.differ.Given as goal
 
 abbrev pub invariant-columns : goal.invariant-columns

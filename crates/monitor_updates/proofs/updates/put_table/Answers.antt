@@ -3,7 +3,7 @@ use Rattle.std.specs.Bool.{IsTrue}
 use Rattle.serde_json.specs.Data.{put}
 use Rattle.serde_json.specs.View.{members_view}
 use Rattle.serde_json.proofs.Views.{view-Object}
-use Rattle.monitor_updates.specs.Told.{with_some}
+use Rattle.monitor_updates.specs.OneRow.{with_some}
 use Rattle.monitor_updates.proofs.Tables.{some_member}
 use Rattle.monitor_updates.proofs.updates.put_table.Goals as goal
 

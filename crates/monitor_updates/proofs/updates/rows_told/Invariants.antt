@@ -3,7 +3,7 @@ use Rattle.std.specs.List.{filter_map}
 use Rattle.serde_json.specs.View.{members_view}
 use Rattle.json_notation.specs.Json.{to_members}
 use Rattle.vtep_rows.specs.declared.differences.RowChange.{RowChange}
-use Rattle.monitor_updates.specs.Told.{told_member}
+use Rattle.monitor_updates.specs.OneRow.{told_member}
 use Rattle.monitor_updates.proofs.updates.rows_told.Given as goal
 
 abbrev pub invariant-change : goal.invariant-change

@@ -6,7 +6,7 @@ use Rattle.vtep_schema.specs.declared.Table.{Table}
 use Rattle.vtep_schema.specs.Tables.{tables}
 use Rattle.monitor_updates.specs.Noted.{asked_of}
 use Rattle.monitor_updates.specs.Updates.{table_member}
-use Rattle.monitor_updates.specs.Told.{told_member}
+use Rattle.monitor_updates.specs.OneRow.{told_member}
 use Rattle.monitor_updates.proofs.updates.tables_told.Given as goal
 
 abbrev pub invariant-tables : goal.invariant-tables

@@ -1,7 +1,7 @@
 use Rattle.std.proofs.Common.{Some, None, ap, ◌∙◌}
 use Rattle.serde_json.specs.Written.{has_float}
 use Rattle.transact_profile.specs.Finish.{finished}
-use Rattle.vtep_gateway.proofs.Plain.{plain_finished}
+use Rattle.vtep_gateway.proofs.NoFraction.{plain_finished}
 use Rattle.vtep_gateway.proofs.methods.transacted.Goals as goal
 
 pub returns-then-outcome-clause-plain : goal.returns-then-outcome-clause-plain

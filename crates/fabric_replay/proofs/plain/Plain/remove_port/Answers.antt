@@ -1,4 +1,4 @@
-use Rattle.std.proofs.Common.{map, ◌≡◌, true, Some, [], ◌∷◌, ◌++◌, refl, sym, ap, subst, ◌∙◌, filter}
+use Rattle.std.proofs.Common.{map, ◌≡◌, true, Some, ◌++◌, refl, sym, ap, subst, ◌∙◌, filter}
 use Rattle.std.specs.List.{list_any}
 use Rattle.vtep_base.specs.Reading.{same_bytes}
 use Rattle.fabric_world.specs.declared.Line.TheVariants as line

@@ -1,9 +1,9 @@
 use Rattle.std.proofs.Common.{◌≡◌, IfOk, option_map, subst, sym, ap, ◌∙◌}
 use Rattle.serde_json.specs.View.{view}
 use Rattle.monitor_updates.specs.Updates.{params_json}
-use Rattle.monitor_updates.specs.Told.{noted_in}
+use Rattle.monitor_updates.specs.OneRow.{noted_in}
 use Rattle.monitor_updates.proofs.Tables.{noted_from}
-use Rattle.monitor_updates.proofs.Plain.{notice_plain}
+use Rattle.monitor_updates.proofs.NoFraction.{notice_plain}
 use Rattle.monitor_updates.proofs.monitor.Monitor.notice.Goals as goal
 
 pub returns-clause-told : goal.returns-clause-told

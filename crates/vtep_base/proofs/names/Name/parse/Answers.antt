@@ -1,9 +1,8 @@
-use Rattle.std.proofs.Common.{◌≡◌, Ok, []}
-use Rattle.vtep_base.specs.Texts.{read_name, name_of, name_step, name_done}
-use Rattle.vtep_base.proofs.LongestFront.{is_longest, longest_on_err}
-use Rattle.vtep_base.proofs.Completed.{name_completes}
+use Rattle.std.proofs.Common.{inl, inr, arith}
+use Rattle.vtep_base.proofs.NameLaws.{not_read_longest}
 use Rattle.vtep_base.proofs.names.Name.parse.Goals as goal
+use Rattle.vtep_base.proofs.names.Name.parse.Goals.{then-offset-eq0-via-then-offset-eq0, then-offset-eq0-via-else-offset-eq0+then-offset-text}
 
-pub returns-clause-longest : goal.returns-clause-longest
-returns-clause-longest c = longest_on_err (λ f. f.offset) name_of c.args.text.now c.read.result (read_name c.args.text.now) (λ n. read_name c.args.text.now ≡ Ok n)
-    (λ m. is_longest name_step name_done name_completes c.args.text.now m []) c.read.ensures
+pub returns-then-offset-eq0-clause-longest : goal.returns-then-offset-eq0-clause-longest
+returns-then-offset-eq0-clause-longest c = not_read_longest c.args.text.now c.front_length-offset.result c.front_length-offset.ensures
+    (elim c.then-offset-eq0.branch [ then-offset-eq0-via-then-offset-eq0 w ↦ inl (omega (arith, w.if-offset-eq0)) | then-offset-eq0-via-else-offset-eq0+then-offset-text w ↦ inr (omega (arith, w.if-offset-text)) ])

@@ -7,5 +7,5 @@ use Rattle.vtep_gateway.proofs.monitors.Monitors.put.Goals as goal
 
 pub returns : goal.returns
 returns c =
-    one_given nat_cmp_total exact_unsigned c.self.inside.by_session.entries c.insert.new.self.entries c.args.session c.args.watches c.in_ok-insert.ensures.updates.0
-    ∙ ap (λ m. maps.insert m c.args.session c.args.watches) c.self.view_is
+    one_given nat_cmp_total exact_unsigned c.self.inside.by_session.entries c.insert.new.self.entries c.args.session c.args.monitors c.in_ok-insert.ensures.updates.0
+    ∙ ap (λ m. maps.insert m c.args.session c.args.monitors) c.self.view_is

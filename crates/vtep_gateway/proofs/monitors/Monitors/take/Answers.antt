@@ -6,8 +6,8 @@ use Rattle.vtep_base.proofs.Held.{get-held, one_gone}
 use Rattle.vtep_gateway.proofs.monitors.Monitors.take.Goals as goal
 use Rattle.vtep_gateway.proofs.monitors.Monitors.take.Goals.{in-Some, in-None}
 
-pub returns-clause-watches : goal.returns-clause-watches
-returns-clause-watches c =
+pub returns-clause-monitors : goal.returns-clause-monitors
+returns-clause-monitors c =
     let found : c.remove.result ≡ maps.get c.args.self.now c.args.session =
     c.remove.ensures.value ∙ sym (get-held nat_cmp_total c.self.inside.by_session.entries c.args.session) ∙ ap (λ m. maps.get m c.args.session) c.self.view_is in
     elim c.match-remove.branch [

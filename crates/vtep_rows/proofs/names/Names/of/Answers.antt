@@ -1,0 +1,12 @@
+use Rattle.std.proofs.Common.{sym, ap, ◌∙◌}
+use Rattle.std.specs.Option.{unwrap_or}
+use Rattle.vtep_base.proofs.Held.{get-held}
+use Rattle.vtep_rows.specs.Tallies.{count_at}
+use Rattle.vtep_rows.specs.NameOrders.{naming_total}
+use Rattle.vtep_rows.proofs.names.Names.of.Goals as goal
+
+pub returns : goal.returns
+returns c =
+    c.unwrap_or.ensures
+    ∙ ap (λ o. unwrap_or o 0) (c.copied.ensures ∙ c.get.ensures.value ∙ sym (get-held naming_total c.self.inside.by_key.entries (c.args.table, c.args.id, c.args.of)))
+    ∙ ap (λ m. count_at m (c.args.table, c.args.id, c.args.of)) c.self.view_is
