@@ -5,6 +5,7 @@ pub mod Kept
 pub mod LongestFront
 pub mod Completed
 pub mod Held
+pub mod MadeOfNothing
 pub mod Told
 pub mod PairRoom
 pub mod Runs

@@ -15,6 +15,8 @@ mod outside;
 mod reading;
 mod room;
 mod shapes;
+mod steps;
+mod tally;
 mod words;
 
 pub use adapters::{ReadSource, WriteSink};
@@ -31,4 +33,5 @@ pub use outside::{Put, Sink, Source, Took};
 pub use reading::TextFault;
 pub use room::RoomyBytes;
 pub use shapes::{Action, Direction, Kind, Shape};
+pub use steps::{Counted, Ledger, Plain, Steps};
 pub use words::Word;
