@@ -3,7 +3,6 @@ pub mod Views
 pub mod Forms
 pub mod Tables
 pub mod Openings
-pub mod Spelled
 pub mod NoFraction
 pub mod Members
 pub mod Known

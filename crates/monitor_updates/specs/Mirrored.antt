@@ -7,6 +7,7 @@ use Rattle.std.specs.BTreeMap.{is_at}
 use Rattle.std.specs.BTreeSet.{insert_key}
 use Rattle.serde_json.specs.Data.{Data, Members, no_members, member}
 use Rattle.serde_json.specs.Find.{get, as_object}
+use Rattle.vtep_base.specs.Answers.{OrMemory}
 use Rattle.vtep_base.specs.Reading.{Bytes, same_bytes}
 use Rattle.vtep_base.specs.Addresses.{mac_of}
 use Rattle.vtep_base.specs.Maps as maps
@@ -179,13 +180,15 @@ taken_by first m (Some us) = unless (contradiction first m us) (applied m us)
 abbrev pub taken : Bool → Mirrored → Data → Result Mirrored MirrorFault
 taken first m d = taken_by first m (told_of d)
 
+abbrev pub refusal_of : MirrorFault → Option MirrorFault
+refusal_of fault.OutOfMemory = None
+refusal_of fault.Shape = Some fault.Shape
+refusal_of (fault.Contradicts t id) = Some (fault.Contradicts t id)
+
 -- a call's refusal is want of memory, or the one that is meant
 abbrev pub IsMeant : MirrorFault → Result Mirrored MirrorFault → Type 0
-IsMeant fault.OutOfMemory meant = Unit {0}
-IsMeant fault.Shape meant = meant ≡ Err fault.Shape
-IsMeant (fault.Contradicts t id) meant = meant ≡ Err (fault.Contradicts t id)
+IsMeant f meant = OrMemory (refusal_of f) (λ refusal. meant ≡ Err refusal)
 
 -- a refusal leaves the mirror as it was; want of memory may not
-abbrev pub IsKept : MirrorFault → Mirrored → Mirrored → Type 0
-IsKept fault.OutOfMemory before now = Unit {0}
-IsKept _ before now = now ≡ before
+abbrev pub StaysUnlessMemory : MirrorFault → Mirrored → Mirrored → Type 0
+StaysUnlessMemory f before now = OrMemory (refusal_of f) (λ _. now ≡ before)

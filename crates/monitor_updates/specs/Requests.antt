@@ -2,6 +2,7 @@
 use Rattle.std.specs.Prelude.{◌≡◌, Bool, true, false, ◌&&◌, ◌||◌, if◌then◌else◌, List, [], ◌∷◌, ◌++◌, filter, Option, Some, None, is_some, option_map, option_and_then, codes, Result, Ok, Err}
 use Rattle.serde_json.specs.Data.{Data, Items, no_items, item, Members, no_members, member}
 use Rattle.serde_json.specs.Find.{get, as_array, as_object, as_str, as_bool}
+use Rattle.vtep_base.specs.Answers.{OrMemory}
 use Rattle.vtep_base.specs.Reading.{Bytes, same_bytes}
 use Rattle.vtep_base.specs.declared.words.Word.{Word}
 use Rattle.vtep_base.specs.declared.words.Word.TheVariants as word
@@ -26,10 +27,13 @@ abbrev pub or_refuse : {A : Type 0} → Word → Option A → Result A Word
 or_refuse w None = Err w
 or_refuse w (Some a) = Ok a
 
+abbrev pub refusal_of : MonitorFault → Option Word
+refusal_of fault.OutOfMemory = None
+refusal_of (fault.Word w) = Some w
+
 -- a refusal is want of memory, or the word that is meant
 abbrev pub IsRefusal : {A : Type 0} → MonitorFault → Result A Word → Type 0
-IsRefusal fault.OutOfMemory meant = Unit {0}
-IsRefusal (fault.Word w) meant = meant ≡ Err w
+IsRefusal f meant = OrMemory (refusal_of f) (λ w. meant ≡ Err w)
 
 -- an object of a table's request: the names of its columns, where they are given, and its flags
 pub record Form : Type 0 where

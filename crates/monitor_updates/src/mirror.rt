@@ -4,7 +4,7 @@ ghost use Rattle.std.specs.Prelude.{◌≡◌, true, false, Ok, IfErr, OnOk, map
 ghost use Rattle.serde_json.specs.View.{view};
 ghost use Rattle.vtep_base.specs.Maps as maps;
 ghost use Rattle.vtep_schema.specs.Tables.{same_table};
-ghost use Rattle.monitor_updates.specs.Mirrored.{is_value, has_values, agrees, contradiction, applied, applied_one, taken, IsMeant, IsKept};
+ghost use Rattle.monitor_updates.specs.Mirrored.{is_value, has_values, agrees, contradiction, applied, applied_one, taken, IsMeant, StaysUnlessMemory};
 
 use crate::row_updates::{KeyedUpdate, RowUpdate, told_of};
 use crate::updates::differ;
@@ -132,7 +132,7 @@ fn apply(rows: &mut Store, told: List<KeyedUpdate>) -> Result<(), OutOfMemory>
 fn take(alloc: Global, rows: &mut Store, first: bool, updates: &Value) -> Result<(), MirrorFault>
     ensures ok { OnOk result (taken first rows.old (view updates.now) ≡ Ok rows.new) }
     ensures err { IfErr result (λ f. IsMeant f (taken first rows.old (view updates.now))) }
-    ensures kept { IfErr result (λ f. IsKept f rows.old rows.new) }
+    ensures kept { IfErr result (λ f. StaysUnlessMemory f rows.old rows.new) }
 {
     let Some(told) = told_of(alloc, updates)? else {
         return Err(MirrorFault::Shape);
@@ -160,7 +160,7 @@ impl Mirror {
     pub fn open(&mut self, alloc: Global, reply: &Value) -> Result<(), MirrorFault>
         ensures ok { OnOk result (taken true self.old (view reply.now) ≡ Ok self.new) }
         ensures err { IfErr result (λ f. IsMeant f (taken true self.old (view reply.now))) }
-        ensures kept { IfErr result (λ f. IsKept f self.old self.new) }
+        ensures kept { IfErr result (λ f. StaysUnlessMemory f self.old self.new) }
     {
         take(alloc, &mut self.rows, true, reply)
     }
@@ -171,7 +171,7 @@ impl Mirror {
     pub fn take(&mut self, alloc: Global, update: &Value) -> Result<(), MirrorFault>
         ensures ok { OnOk result (taken false self.old (view update.now) ≡ Ok self.new) }
         ensures err { IfErr result (λ f. IsMeant f (taken false self.old (view update.now))) }
-        ensures kept { IfErr result (λ f. IsKept f self.old self.new) }
+        ensures kept { IfErr result (λ f. StaysUnlessMemory f self.old self.new) }
     {
         take(alloc, &mut self.rows, false, update)
     }

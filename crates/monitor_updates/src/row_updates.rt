@@ -2,16 +2,14 @@
 
 ghost use Rattle.std.specs.Prelude.{◌≡◌, ◌∷◌, [], ◌<◌, ◌^◌, Some, None, option_map, IfOk, IfSome};
 ghost use Rattle.serde_json.specs.View.{view, members_view};
-ghost use Rattle.ovsdb_values.specs.Notation.{id_of};
 ghost use Rattle.monitor_updates.specs.Mirrored.{holds_mac, lower_mac, lowered, value_if, value_in, told_value, values_from, told_values, told_whole, told_some, told_by, only_told, told_update, told_entry, rows_from, spells_each_once, told_table, tables_from, told_of};
 ghost use Rattle.ovsdb_values.specs.Notation.{datum_of};
 ghost use Rattle.vtep_schema.specs.Tables.{shape_of};
 
-use ovsdb_values::{Atom, AtomSet, Datum, NotationFault, from_json};
+use ovsdb_values::{Atom, AtomSet, Datum, NotationFault, from_json, parse_id};
 use serde_json::{Map, Value};
 use std::alloc::Global;
 use std::collections::BTreeSet;
-use uuid::Uuid;
 use vtep_base::{List, Mac, OutOfMemory, RowId, Txt};
 use vtep_rows::{Row, RowFault, allowed};
 use vtep_schema::{Column, Domain, Table, column_rule, named, shape};
@@ -220,18 +218,6 @@ fn told_update(alloc: Global, table: Table, value: &Value) -> Result<Option<RowU
         return Ok(None);
     }
     told_by(alloc, table, value.get("old"), value.get("new"))
-}
-
-fn parse_id(text: &str) -> Option<RowId>
-    ensures { result ≡ id_of text.now }
-{
-    if text.len() != 36 {
-        return None;
-    }
-    match Uuid::parse_str(text) {
-        Ok(id) => Some(id.as_u128()),
-        Err(_) => None,
-    }
 }
 
 /// A row that is told.

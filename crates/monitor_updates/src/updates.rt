@@ -1,6 +1,6 @@
 //! Row updates as they are sent (RFC 7047, section 4.1.6).
 
-ghost use Rattle.std.specs.Prelude.{◌≡◌, [], Some, None, option_map, is_some, filter_map, IfOk, OnOk};
+ghost use Rattle.std.specs.Prelude.{◌≡◌, [], Some, None, option_map, filter_map, IfOk, OnOk};
 ghost use Rattle.serde_json.specs.Data.{put as with_member};
 ghost use Rattle.serde_json.specs.View.{view, members_view};
 ghost use Rattle.json_notation.specs.Json.{to_members};
@@ -175,17 +175,27 @@ fn modify_json(
     Ok(Value::Object(update))
 }
 
-/// A row that is there before or after is told.
-fn is_told(asked: &MonitorRequest, change: &RowChange) -> bool
-    ensures { result ≡ is_some (told_by (Some asked.now) change.now.old change.now.new) }
+/// What is told of a row that was there.
+fn told_of_old(
+    alloc: Global,
+    asked: &MonitorRequest,
+    old: &Row,
+    new: Option<&Row>,
+) -> Result<Option<Value>, OutOfMemory>
+    ensures { IfOk result (λ o. option_map view o
+        ≡ option_map update_json (told_by (Some asked.now) (Some old.now)
+        (option_map (λ row. row.now) new.entry))) }
 {
-    let Some(old) = &change.old else {
-        return change.new.is_some() && asked.insert;
+    let Some(new) = new else {
+        if !asked.delete {
+            return Ok(None);
+        }
+        return Ok(Some(delete_json(alloc, asked, old)?));
     };
-    let Some(new) = &change.new else {
-        return asked.delete;
-    };
-    asked.modify && differ(asked.columns.as_slice(), old, new)
+    if !asked.modify || !differ(asked.columns.as_slice(), old, new) {
+        return Ok(None);
+    }
+    Ok(Some(modify_json(alloc, asked, old, new)?))
 }
 
 fn told_json(
@@ -196,18 +206,12 @@ fn told_json(
     ensures { IfOk result (λ o. option_map view o
         ≡ option_map update_json (told_by (Some asked.now) change.now.old change.now.new)) }
 {
-    if !is_told(asked, change) {
-        return Ok(None);
+    if let Some(old) = &change.old {
+        return told_of_old(alloc, asked, old, change.new.as_ref());
     }
-    let Some(old) = &change.old else {
-        return match &change.new {
-            Some(new) => Ok(Some(insert_json(alloc, asked, new)?)),
-            None => Ok(None),
-        };
-    };
     match &change.new {
-        Some(new) => Ok(Some(modify_json(alloc, asked, old, new)?)),
-        None => Ok(Some(delete_json(alloc, asked, old)?)),
+        Some(new) if asked.insert => Ok(Some(insert_json(alloc, asked, new)?)),
+        _ => Ok(None),
     }
 }
 

@@ -23,7 +23,7 @@ pub use atom_maps::AtomMap;
 pub use atom_sets::AtomSet;
 pub use atoms::Atom;
 pub use datums::Datum;
-pub use reader::{atoms_from_json, from_json, pairs_from_json};
+pub use reader::{atoms_from_json, from_json, pairs_from_json, parse_id};
 pub use writer::to_json;
 
 /// Why a value is no set or map of its shape.

@@ -67,7 +67,8 @@ fn behind<'a>(word: &str, value: &'a Value) -> Option<&'a Value>
     }
 }
 
-fn parse_id(text: &str) -> Option<RowId>
+/// The identifier that a text of 36 bytes spells, in letters of either case (RFC 9562, section 4). Takes no memory.
+pub fn parse_id(text: &str) -> Option<RowId>
     ensures value { result ≡ id_of text.now }
     ensures fits { IfSome result (λ id. id < 2 ^ 128) }
 {
