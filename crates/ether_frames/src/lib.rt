@@ -1,9 +1,14 @@
-//! Ethernet frames and their tags (IEEE 802.1Q, one tag at most).
+//! Ethernet frames: their tags (IEEE 802.1Q, one tag at most), and the headers that rules look at.
 #![tactic(auto)]
 
 ghost use Rattle.std.specs.Prelude.{◌≡◌, ◌≤◌, ◌++◌, length, Ok, Err, IfOk, IsOkAnd, MatchResult, OnOk, OnErr, ℕ, List};
 ghost use Rattle.ether_frames.specs.Frames.{Carries, begins_tag, untagged_frame, tagged_frame, frame_of, tagged};
 
+mod fields;
+mod parsing;
+
+pub use fields::{Headers, Icmp, Ip, Ports};
+pub use parsing::headers;
 use vtep_base::{Bytes, Inner, OutOfMemory, Vlan};
 
 /// Why bytes are no frame.
