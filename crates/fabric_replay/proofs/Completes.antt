@@ -1,8 +1,8 @@
 -- A script that is not refused is run whole.
-use Rattle.std.proofs.Common.{◌≡◌, ℕ, ◌⊎◌, inl, inr, ◌<◌, ◌^◌, List, [], ◌∷◌, ◌++◌, length, take, Option, Some, None, refl, sym, ap, ◌∙◌, append-nil, arith}
+use Rattle.std.proofs.Common.{◌≡◌, ◌⊎◌, inl, inr, ◌<◌, ◌^◌, List, [], ◌∷◌, ◌++◌, length, take, Option, Some, None, refl, sym, ap, ◌∙◌, append-nil, arith}
 use Rattle.std.proofs.lemmas.List.{length-append, take_at}
 use Rattle.vtep_base.specs.Reading.{Bytes}
-use Rattle.vtep_base.specs.Outside.{SourceState, SinkState, Grows, Shrinks, IsSpent, Rose}
+use Rattle.vtep_base.specs.Outside.{SourceState, SinkState, Grows, Shrinks, IsSpent}
 use Rattle.vtep_base.specs.declared.answers.Status.{Status}
 use Rattle.vtep_base.specs.declared.answers.Status.TheVariants as status
 use Rattle.fabric_world.specs.Text.{cut}

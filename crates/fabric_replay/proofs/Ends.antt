@@ -1,5 +1,5 @@
 -- How a run ends.
-use Rattle.std.proofs.Common.{◌≡◌, ℕ, [], ◌++◌, ◌≤◌, Option, Some, None, refl, sym, ap, subst, ◌∙◌, arith}
+use Rattle.std.proofs.Common.{◌≡◌, [], ◌++◌, ◌≤◌, Option, Some, None, refl, sym, ap, subst, ◌∙◌, arith}
 use Rattle.vtep_base.specs.Reading.{Bytes}
 use Rattle.vtep_base.specs.Outside.{SourceState, SinkState}
 use Rattle.vtep_base.specs.declared.answers.Status.{Status}

@@ -1,5 +1,6 @@
 -- How definitions see the words of the code.
-use Rattle.std.specs.Prelude.{◌≡◌, ℕ, suc, ◌+◌, ◌<◌, ◌^◌, length, Result, Ok, Err, ◌==◌, if◌then◌else◌, List, [], ◌∷◌}
+use Rattle.std.specs.Prelude.{◌≡◌, ℕ, suc, ◌+◌, ◌<◌, ◌^◌, length, Option, Some, None, Result, Ok, Err, ◌==◌, if◌then◌else◌, List, [], ◌∷◌}
+use Rattle.vtep_base.specs.Answers.{OrMemory}
 use Rattle.vtep_base.specs.Reading.{Bytes}
 use Rattle.fabric_world.specs.Text as text
 use Rattle.fabric_world.specs.declared.Refusal.{Refusal}
@@ -20,10 +21,13 @@ abbrev pub AllFit : List Word → Type 0
 AllFit [] = Unit {0}
 AllFit (w ∷ ws) = (w.column + length w.bytes.now < 2 ^ 64) × AllFit ws
 
+abbrev pub refusal_of : LineFault → Option Refusal
+refusal_of line_fault.OutOfMemory = None
+refusal_of (line_fault.Refused why) = Some why
+
 -- an answer gives what reading gives, unless memory ran out
 abbrev pub Fails : {A : Type 0} → LineFault → Result A Refusal → Type 0
-Fails line_fault.OutOfMemory read = Unit {0}
-Fails (line_fault.Refused why) read = read ≡ Err why
+Fails fault read = OrMemory (refusal_of fault) (λ why. read ≡ Err why)
 
 abbrev pub Reads : {A : Type 0} → Result A LineFault → Result A Refusal → Type 0
 Reads (Ok a) read = read ≡ Ok a

@@ -2,6 +2,7 @@
 use Rattle.std.specs.Prelude.{ℕ, ◌+◌, ◌-◌, ◌^◌, ◌==◌, Bool, nat_lt, if◌then◌else◌, List, [], ◌∷◌, length, Option, Some, None, option_and_then, slice_get, codes, Result, Ok, Err}
 use Rattle.std.specs.Result.{result_ok}
 use Rattle.hex.specs.Hex.{decode_of}
+use Rattle.vtep_base.specs.Chains.{◌>>=◌}
 use Rattle.vtep_base.specs.Reading.{Bytes, same_bytes}
 use Rattle.vtep_base.specs.Texts.{name_of, ipv4_of, vni_of, vlan_of, number_upto}
 use Rattle.vtep_base.specs.declared.answers.Mode.{Mode}
@@ -18,11 +19,6 @@ use Rattle.fabric_world.specs.Text.{Word, words, bad_byte}
 
 abbrev pub refuse : {A : Type 0} → ℕ → LineReason → Result A Refusal
 refuse column why = Err (record { column = column; reason = why })
-
-infixl 10 ◌>>=◌
-abbrev pub ◌>>=◌ : {A B : Type 0} → Result A Refusal → (A → Result B Refusal) → Result B Refusal
-(Ok a) >>= f = f a
-(Err e) >>= f = Err e
 
 -- ---- what lines say
 

@@ -4,7 +4,8 @@ ghost use Rattle.std.specs.Prelude.{◌≡◌, [], Ok, Err, Some, None, option_m
 ghost use Rattle.serde_json.specs.Find.{get, as_str};
 ghost use Rattle.serde_json.specs.View.{view, items_view, members_view};
 ghost use Rattle.vtep_schema.specs.Tables.{columns_of};
-ghost use Rattle.monitor_updates.specs.Requests.{IsRefusal, all_texts, names_of, flag, select_of, form_of, all_forms, form_among, the_form, is_column, all_columns, is_among, columns_asked, asked, asked_from, request_of};
+ghost use Rattle.monitor_updates.specs.Forms.{all_texts, names_of, flag, select_of, form_of, all_forms};
+ghost use Rattle.monitor_updates.specs.Requests.{IsRefusal, form_among, the_form, is_column, all_columns, is_among, columns_asked, asked, asked_from, request_of};
 ghost use Rattle.vtep_base.specs.declared.words.Word.TheVariants.{SyntaxError};
 ghost use Rattle.monitor_updates.specs.Seen.{seen};
 

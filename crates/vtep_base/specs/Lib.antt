@@ -8,3 +8,5 @@ pub mod PairCells
 pub mod Reading
 pub mod Refusals
 pub mod Texts
+pub mod Chains
+pub mod Choices

@@ -19,7 +19,8 @@ use Rattle.vtep_rows.specs.Rows.{Rows}
 use Rattle.transact_profile.specs.Meaning.{Reply, Outcome, means}
 use Rattle.transact_profile.specs.Transaction.{ops_in}
 use Rattle.transact_profile.specs.Finish.{finished}
-use Rattle.monitor_updates.specs.Requests.{or_refuse, ◌>>?◌, request_of}
+use Rattle.vtep_base.specs.Chains.{or_refuse, ◌>>=◌}
+use Rattle.monitor_updates.specs.Requests.{request_of}
 use Rattle.monitor_updates.specs.Updates.{opening_json}
 use Rattle.vtep_gateway.specs.Monitors.{OpenMonitor, monitors_of, with_monitor, told_all, is_free, asks, left_by}
 use Rattle.vtep_gateway.specs.Vtep.{Vtep, with_rows, with_monitors}
@@ -95,12 +96,12 @@ transact_in v params (Err w) = only v (Err w)
 
 -- the monitor that is asked for, or the first refusal: of the parameters' form, of the database, of the name, and of what is asked of the tables
 abbrev pub monitor_for : List OpenMonitor → Data → Result OpenMonitor Word
-monitor_for ws params =
-    or_refuse word.SyntaxError (asks params) >>? λ a.
-    in_database params >>? λ _.
-    is_free ws (compact_text a.0) >>? λ _.
-    request_of a.1 >>? λ request.
-    Ok (record { name = compact_text a.0; request = request })
+monitor_for ws params = do
+  a ← or_refuse word.SyntaxError (asks params)
+  named ← in_database params
+  free ← is_free ws (compact_text a.0)
+  request ← request_of a.1
+  Ok (record { name = compact_text a.0; request = request })
 
 -- the monitor is opened, and the rows that are there are the result
 abbrev pub monitor_by : Vtep → ℕ → Result OpenMonitor Word → Done

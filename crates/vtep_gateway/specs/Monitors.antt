@@ -17,7 +17,7 @@ use Rattle.vtep_rows.specs.Rows.{Rows, Key}
 use Rattle.monitor_updates.specs.contracts.requests.MonitorRequest as code
 use Rattle.monitor_updates.specs.declared.requests.MonitorRequest.{MonitorRequest}
 use Rattle.monitor_updates.specs.Noted.{Update, noted}
-use Rattle.monitor_updates.specs.Requests.{or_refuse, ◌>>?◌}
+use Rattle.vtep_base.specs.Chains.{or_refuse, ◌>>=◌}
 use Rattle.monitor_updates.specs.Updates.{updates_json}
 use Rattle.vtep_gateway.specs.declared.Outgoing.{Outgoing}
 
@@ -104,4 +104,4 @@ others_of ws id = if is_open ws (compact_text id) then Ok (others ws (compact_te
 
 -- the monitors that a cancellation leaves, or its refusal
 abbrev pub left_by : List OpenMonitor → Data → Result (List OpenMonitor) Word
-left_by ws params = or_refuse word.SyntaxError (one_of params) >>? others_of ws
+left_by ws params = or_refuse word.SyntaxError (one_of params) >>= others_of ws
