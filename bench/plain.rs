@@ -1,5 +1,5 @@
 //! The same work as the program's, written plainly over the standard library: what a proof costs is measured beside it.
-use std::collections::{BTreeMap, HashSet};
+use std::collections::{BTreeMap, HashMap, HashSet};
 use std::io::{self, BufRead, Write};
 
 struct Plain {
@@ -13,13 +13,17 @@ struct Plain {
     database: Database,
 }
 
-/// What is kept of rows: how many identifiers were given, and the switches' unique names and tunnel keys.
+type Row = BTreeMap<String, Json>;
+
+/// Rows by table and number, how often each is named, and the unique keys that stand.
 struct Database {
     counter: u64,
-    switches: HashSet<String>,
-    tunnel_keys: HashSet<i64>,
+    rows: BTreeMap<(&'static str, u64), Row>,
+    named: HashMap<u64, u64>,
+    keys: HashSet<(&'static str, String)>,
 }
 
+#[derive(Clone)]
 enum Json {
     Null,
     Bool(bool),
@@ -236,6 +240,13 @@ impl Reader<'_> {
 }
 
 impl Json {
+    fn item(&self, at: usize) -> Option<&Json> {
+        match self {
+            Json::List(list) => list.get(at),
+            _ => None,
+        }
+    }
+
     fn member(&self, key: &str) -> Option<&Json> {
         match self {
             Json::Object(object) => object.get(key),
@@ -323,48 +334,156 @@ fn message_end(stream: &[u8]) -> Option<usize> {
     None
 }
 
-impl Database {
-    /// Runs insertions into Logical_Switch and ACL_entry. An entry that nothing names goes at once.
-    fn transact(&mut self, ip: u32, operations: &[Json]) -> Option<Vec<Json>> {
-        let (mut results, mut names, mut keys, mut counter, mut broken) = (Vec::new(), Vec::new(), Vec::new(), self.counter, false);
-        for operation in operations {
-            let row = operation.member("row")?;
-            counter += 1;
-            let id = format!("{ip:08x}-0000-8000-8000-{counter:012x}");
-            results.push(object(vec![("uuid", Json::List(vec![text("uuid"), Json::Text(id)]))]));
-            match operation.member("table")?.text()? {
-                "ACL_entry" => {
-                    row.member("direction")?.text()?;
-                    row.member("action")?.text()?;
-                }
-                "Logical_Switch" => {
-                    let name = row.member("name")?.text()?.to_string();
-                    if self.switches.insert(name.clone()) {
-                        names.push(name);
-                    } else {
-                        broken = true;
-                    }
-                    if let Some(Json::Number(key)) = row.member("tunnel_key") {
-                        if self.tunnel_keys.insert(*key) {
-                            keys.push(*key);
-                        } else {
-                            broken = true;
-                        }
-                    }
-                }
-                _ => return None,
+/// The columns of a table with their defaults.
+fn defaults(table: &str) -> Option<(&'static str, Row)> {
+    let empty = || Json::List(vec![text("set"), Json::List(Vec::new())]);
+    let (name, columns): (_, &[(&str, Option<&str>)]) = match table {
+        "ACL_entry" => ("ACL_entry", &[]),
+        "Logical_Switch" => ("Logical_Switch", &[("description", Some("")), ("name", Some("")), ("replication_mode", None), ("tunnel_key", None)]),
+        "Physical_Locator" => ("Physical_Locator", &[]),
+        "Ucast_Macs_Remote" => ("Ucast_Macs_Remote", &[("ipaddr", Some(""))]),
+        _ => return None,
+    };
+    Some((name, columns.iter().map(|(column, value)| (column.to_string(), value.map_or_else(empty, text))).collect()))
+}
+
+/// The number of the row that a value names.
+fn reference(value: &Json) -> Option<u64> {
+    match value {
+        Json::List(pair) => match &pair[..] {
+            [Json::Text(word), Json::Text(id)] if word == "uuid" => u64::from_str_radix(id.get(24..)?, 16).ok(),
+            _ => None,
+        },
+        _ => None,
+    }
+}
+
+fn unique_keys(table: &'static str, row: &Row) -> Vec<(&'static str, String)> {
+    let columns: &[&[&str]] = match table {
+        "Logical_Switch" => &[&["name"], &["tunnel_key"]],
+        "Physical_Locator" => &[&["dst_ip"]],
+        "Ucast_Macs_Remote" => &[&["logical_switch", "MAC"]],
+        _ => &[],
+    };
+    let mut keys = Vec::new();
+    for (at, columns) in columns.iter().enumerate() {
+        let mut key = vec![b'0' + at as u8];
+        for column in *columns {
+            match row.get(*column) {
+                Some(Json::List(pair)) if matches!(&pair[..], [Json::Text(word), _] if word == "set") => key.clear(),
+                Some(value) => value.write(&mut key),
+                None => {}
             }
         }
-        if broken || self.switches.len() > 1024 {
-            for name in &names {
-                self.switches.remove(name);
+        if !key.is_empty() {
+            keys.push((table, String::from_utf8(key).unwrap()));
+        }
+    }
+    keys
+}
+
+impl Database {
+    fn put(&mut self, table: &'static str, number: u64, row: Row) -> bool {
+        let mut unique = true;
+        for key in unique_keys(table, &row) {
+            unique &= self.keys.insert(key);
+        }
+        for number in row.values().filter_map(reference) {
+            *self.named.entry(number).or_insert(0) += 1;
+        }
+        self.rows.insert((table, number), row);
+        unique
+    }
+
+    fn take(&mut self, table: &'static str, number: u64) -> Option<Row> {
+        let row = self.rows.remove(&(table, number))?;
+        for key in unique_keys(table, &row) {
+            self.keys.remove(&key);
+        }
+        for number in row.values().filter_map(reference) {
+            if let Some(count) = self.named.get_mut(&number) {
+                *count -= 1;
             }
-            for key in &keys {
-                self.tunnel_keys.remove(key);
+        }
+        Some(row)
+    }
+
+    /// Runs insertions, and deletions and selections by identifier. Locators and entries that nothing names go at the end.
+    fn transact(&mut self, ip: u32, operations: &[Json]) -> Option<Vec<Json>> {
+        let id_of = |number: u64| Json::List(vec![text("uuid"), Json::Text(format!("{ip:08x}-0000-8000-8000-{number:012x}"))]);
+        let (before, mut results, mut names) = (self.counter, Vec::new(), HashMap::new());
+        let (mut came, mut went, mut error) = (Vec::new(), Vec::new(), None);
+        let mut next = self.counter;
+        for operation in operations.iter().filter(|o| o.member("op").and_then(Json::text) == Some("insert")) {
+            next += 1;
+            if let Some(name) = operation.member("uuid-name").and_then(Json::text) {
+                names.insert(name.to_string(), next);
             }
-            results.push(object(vec![("error", text("constraint violation"))]));
-        } else {
-            self.counter = counter;
+        }
+        for operation in operations {
+            if error.is_some() {
+                results.push(Json::Null);
+                continue;
+            }
+            let wanted = || reference(operation.member("where")?.item(0)?.item(2)?);
+            match operation.member("op")?.text()? {
+                "insert" => {
+                    self.counter += 1;
+                    let (table, mut row) = defaults(operation.member("table")?.text()?)?;
+                    let Json::Object(given) = operation.member("row")? else { return None };
+                    for (column, value) in given {
+                        let named = value.item(1).and_then(Json::text).and_then(|name| names.get(name));
+                        let named = named.filter(|_| value.item(0).and_then(Json::text) == Some("named-uuid"));
+                        row.insert(column.clone(), named.map_or_else(|| value.clone(), |number| id_of(*number)));
+                    }
+                    if !self.put(table, self.counter, row) {
+                        return None;
+                    }
+                    came.push((table, self.counter));
+                    results.push(object(vec![("uuid", id_of(self.counter))]));
+                }
+                "delete" => {
+                    let (table, _) = defaults(operation.member("table")?.text()?)?;
+                    let number = wanted()?;
+                    let row = self.take(table, number);
+                    results.push(object(vec![("count", Json::Number(row.is_some() as i64))]));
+                    went.extend(row.map(|row| (table, number, row)));
+                }
+                "select" => {
+                    let (table, _) = defaults(operation.member("table")?.text()?)?;
+                    let number = wanted()?;
+                    let rows = self.rows.get(&(table, number)).map(|row| {
+                        let mut row = row.clone();
+                        row.insert("_uuid".to_string(), id_of(number));
+                        Json::Object(row)
+                    });
+                    results.push(object(vec![("rows", Json::List(rows.into_iter().collect()))]));
+                }
+                "abort" => error = Some("aborted"),
+                _ => return None,
+            }
+            if let Some(word) = error {
+                results.push(object(vec![("error", text(word))]));
+            }
+        }
+        let there = |named: &HashMap<u64, u64>, number: &u64| named.get(number).is_some_and(|count| *count > 0);
+        if error.is_some() {
+            for (table, number) in came {
+                self.take(table, number);
+            }
+            for (table, number, row) in went {
+                self.put(table, number, row);
+            }
+            self.counter = before;
+            return Some(results);
+        }
+        for (table, number) in came {
+            if matches!(table, "ACL_entry" | "Physical_Locator") && !there(&self.named, &number) {
+                self.take(table, number);
+            }
+        }
+        if went.iter().any(|(_, number, _)| there(&self.named, number)) {
+            return None;
         }
         Some(results)
     }
@@ -411,7 +530,7 @@ impl Plain {
             bindings: BTreeMap::new(),
             installed: Vec::new(),
             sessions: BTreeMap::new(),
-            database: Database { counter: 2, switches: HashSet::new(), tunnel_keys: HashSet::new() },
+            database: Database { counter: 2, rows: BTreeMap::new(), named: HashMap::new(), keys: HashSet::new() },
         }
     }
 
