@@ -1,18 +1,17 @@
 -- A row that conditions ask for by its identifier is looked up: no other row meets them.
 use Rattle.std.proofs.Common.{◌≡◌, ℕ, Bool, true, false, cond, T, List, [], ◌∷◌, map, is_some, Option, Some, None, refl, sym, ap, ◌∙◌, true≢false}
-use Rattle.std.specs.List.{filter, list_all}
+use Rattle.std.specs.List.{filter}
 use Rattle.std.specs.Ordering.{is_eq}
 use Rattle.std.specs.Cmp.{Equal-is, eq_by_cmp_equiv}
 use Rattle.std.specs.declared.cmp.Ordering.{Ordering}
 use Rattle.std.specs.declared.cmp.Ordering.TheVariants.{Less, Equal, Greater}
 use Rattle.std.specs.FinMap.{find, is_sorted}
 use Rattle.std.specs.FinMap.Entries.{below_all}
-use Rattle.ovsdb_values.specs.declared.atoms.Atom.{Atom}
 use Rattle.ovsdb_values.specs.declared.atoms.Atom.TheVariants.{Id}
 use Rattle.ovsdb_values.specs.declared.datums.Datum.{Datum}
 use Rattle.ovsdb_values.specs.declared.datums.Datum.TheVariants as datum
 use Rattle.ovsdb_values.specs.Atoms.{id_in}
-use Rattle.ovsdb_values.specs.Sets.{one, same_datum}
+use Rattle.ovsdb_values.specs.Sets.{one}
 use Rattle.ovsdb_values.specs.Exact.{same_datum_exact}
 use Rattle.vtep_schema.specs.declared.Table.{Table}
 use Rattle.vtep_schema.specs.Tables.{same_table}
@@ -24,7 +23,7 @@ use Rattle.vtep_rows.proofs.Kept.{same_table_exact, same_table_itself}
 use Rattle.transact_profile.specs.declared.operations.Condition.{Condition}
 use Rattle.transact_profile.specs.declared.operations.Field.TheVariants as field
 use Rattle.transact_profile.specs.declared.operations.Function.TheVariants as function
-use Rattle.transact_profile.specs.Conditions.{cell_of, compares_some, holds, Asks, AsksFor, meets, meets_at, selected}
+use Rattle.transact_profile.specs.Conditions.{cell_of, compares_some, Asks, AsksFor, meets, meets_at, selected}
 
 -- ---- what a condition asks for
 

@@ -1,5 +1,5 @@
 -- What is made of a row is a row of its table.
-use Rattle.std.proofs.Common.{◌≡◌, Bool, true, false, List, Some, None, if◌then◌else◌, ap, sym, ◌∙◌}
+use Rattle.std.proofs.Common.{◌≡◌, Bool, true, false, List, Some, None, if◌then◌else◌, ap, sym}
 use Rattle.ovsdb_values.specs.declared.datums.Datum.{Datum}
 use Rattle.vtep_schema.specs.declared.Table.{Table}
 use Rattle.vtep_schema.specs.declared.Column.{Column}

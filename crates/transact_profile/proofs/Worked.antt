@@ -1,5 +1,5 @@
 -- Worked transactions, by computation: params in, result array out.
-use Rattle.std.proofs.Common.{◌≡◌, Option, Some, None, option_map, refl, [], ◌∷◌}
+use Rattle.std.proofs.Common.{◌≡◌, Option, Some, None, option_map, refl}
 use Rattle.std.specs.Prelude.{codes}
 use Rattle.serde_json.specs.Data.{Data}
 use Rattle.serde_json.specs.Read.{read}

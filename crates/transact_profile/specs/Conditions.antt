@@ -3,7 +3,7 @@ use Rattle.std.specs.Prelude.{◌≡◌, ℕ, ◌+◌, ℤ, pos, int_lt, int_le,
 use Rattle.std.specs.List.{list_all}
 use Rattle.vtep_base.specs.Reading.{Bytes, same_bytes}
 use Rattle.ovsdb_values.specs.declared.atoms.Atom.{Atom}
-use Rattle.ovsdb_values.specs.declared.atoms.Atom.TheVariants.{Integer, Text, Id, Named}
+use Rattle.ovsdb_values.specs.declared.atoms.Atom.TheVariants.{Integer, Id, Named}
 use Rattle.ovsdb_values.specs.declared.datums.Datum.{Datum}
 use Rattle.ovsdb_values.specs.declared.datums.Datum.TheVariants as datum
 use Rattle.ovsdb_values.specs.Sets.{one, same_datum, has_atom, has_pair, set_of, map_of}

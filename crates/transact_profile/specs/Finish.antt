@@ -1,5 +1,5 @@
 -- The result array of a transaction (RFC 7047, section 4.1.3).
-use Rattle.std.specs.Prelude.{ℕ, List, [], ◌∷◌, ◌++◌, map, Option, Some, None, codes}
+use Rattle.std.specs.Prelude.{List, [], ◌∷◌, ◌++◌, map, Option, Some, None, codes}
 use Rattle.vtep_base.specs.Refusals.{word_text}
 use Rattle.vtep_base.specs.declared.words.Word.{Word}
 use Rattle.vtep_base.specs.declared.words.Word.TheVariants as word

@@ -1,13 +1,11 @@
 -- What operations do (RFC 7047, section 5.2): a result, and the rows after them.
-use Rattle.std.specs.Prelude.{ℕ, ◌+◌, ◌-◌, ◌==◌, Bool, true, false, not, ◌&&◌, if◌then◌else◌, List, [], ◌∷◌, ◌++◌, map, length, replicate, Option, Some, None, option_map, codes, Ok, Err}
+use Rattle.std.specs.Prelude.{ℕ, ◌+◌, ◌-◌, ◌==◌, Bool, true, false, not, ◌&&◌, List, [], ◌∷◌, ◌++◌, map, length, replicate, Option, Some, None, Ok, Err}
 use Rattle.std.specs.List.{list_all, list_any}
-use Rattle.vtep_base.specs.Reading.{Bytes, same_bytes}
 use Rattle.vtep_base.specs.declared.words.Word.{Word}
 use Rattle.vtep_base.specs.declared.words.Word.TheVariants as word
 use Rattle.serde_json.specs.Data.{Data, object, Members, no_members, put}
 use Rattle.json_notation.specs.Json.{list}
 use Rattle.ovsdb_values.specs.declared.datums.Datum.{Datum}
-use Rattle.ovsdb_values.specs.declared.datums.Datum.TheVariants as datum
 use Rattle.ovsdb_values.specs.Sets.{same_datum}
 use Rattle.ovsdb_values.specs.Notation.{datum_json}
 use Rattle.vtep_schema.specs.declared.Table.{Table}

@@ -1,5 +1,5 @@
 -- What mutations and updates make of a row.
-use Rattle.std.specs.Prelude.{◌≡◌, ℕ, ◌^◌, ◌==◌, ℤ, pos, negsuc, ◌+ℤ◌, ◌-ℤ◌, ◌*ℤ◌, int_div, int_rem, nat_lt, Bool, true, false, ◌&&◌, if◌then◌else◌, List, [], ◌∷◌, ◌++◌, Ok, Err}
+use Rattle.std.specs.Prelude.{◌^◌, ◌==◌, ℤ, pos, negsuc, ◌+ℤ◌, ◌-ℤ◌, ◌*ℤ◌, int_div, int_rem, nat_lt, Bool, true, false, ◌&&◌, if◌then◌else◌, List, [], ◌∷◌, Ok, Err}
 use Rattle.vtep_base.specs.declared.words.Word.TheVariants as word
 use Rattle.ovsdb_values.specs.declared.atoms.Atom.{Atom}
 use Rattle.ovsdb_values.specs.declared.atoms.Atom.TheVariants.{Integer}
@@ -11,7 +11,7 @@ use Rattle.vtep_rows.specs.Row.{Contents, changed_row}
 use Rattle.transact_profile.specs.declared.operations.Mutator.{Mutator}
 use Rattle.transact_profile.specs.declared.operations.Mutator.TheVariants as mutator
 use Rattle.transact_profile.specs.declared.operations.Mutation.{Mutation}
-use Rattle.transact_profile.specs.Refusing.{Reading, ◌>>?◌, given, needs, each}
+use Rattle.transact_profile.specs.Refusing.{Reading, ◌>>?◌, given, each}
 use Rattle.transact_profile.specs.Conditions.{value_of, number_in}
 
 -- division cuts towards zero, and the remainder has the sign of the dividend

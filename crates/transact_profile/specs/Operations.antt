@@ -1,6 +1,6 @@
 -- Operations as they are written (RFC 7047, section 5.2), and the first fault of each: a member of a wrong type, an unknown
 -- table, an unknown column, what sessions may not write, a name that is taken, a value, and a column that is fixed or not given.
-use Rattle.std.specs.Prelude.{ℕ, Bool, true, false, not, ◌&&◌, ◌||◌, if◌then◌else◌, List, [], ◌∷◌, map, Option, Some, None, is_some, option_map, unwrap_or, codes, Ok, Err}
+use Rattle.std.specs.Prelude.{Bool, true, false, not, ◌&&◌, ◌||◌, if◌then◌else◌, List, map, Option, Some, None, is_some, option_map, unwrap_or, codes, Ok, Err}
 use Rattle.std.specs.List.{list_all, list_any}
 use Rattle.vtep_base.specs.Reading.{Bytes, same_bytes}
 use Rattle.vtep_base.specs.declared.words.Word.TheVariants as word
@@ -10,7 +10,7 @@ use Rattle.ovsdb_values.specs.declared.datums.Datum.{Datum}
 use Rattle.vtep_schema.specs.declared.Table.{Table}
 use Rattle.vtep_schema.specs.declared.Column.{Column}
 use Rattle.vtep_schema.specs.declared.rules.Given.{Given}
-use Rattle.vtep_schema.specs.declared.rules.Given.TheVariants.{Optional, Required, Fixed}
+use Rattle.vtep_schema.specs.declared.rules.Given.TheVariants.{Optional, Fixed}
 use Rattle.vtep_schema.specs.Tables.{columns_of, column_rule, table_rule, table_named, column_named, written_by_sessions, same_column}
 use Rattle.transact_profile.specs.declared.known.Known.{Known}
 use Rattle.transact_profile.specs.declared.operations.Field.{Field}

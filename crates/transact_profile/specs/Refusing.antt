@@ -1,5 +1,5 @@
 -- Readings that give a value or the word that refuses it.
-use Rattle.std.specs.Prelude.{◌≡◌, Bool, true, false, if◌then◌else◌, List, [], ◌∷◌, ◌++◌, Option, Some, None, Result, Ok, Err}
+use Rattle.std.specs.Prelude.{◌≡◌, Bool, true, false, List, [], ◌∷◌, ◌++◌, Option, Some, None, Result, Ok, Err}
 use Rattle.vtep_base.specs.Answers.{OrMemory}
 use Rattle.vtep_base.specs.declared.words.Word.{Word}
 use Rattle.transact_profile.specs.declared.faults.Fault.{Fault}

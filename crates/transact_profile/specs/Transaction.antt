@@ -1,6 +1,5 @@
 -- The operations of a transaction, up to the first that can't be read.
-use Rattle.std.specs.Prelude.{ℕ, ◌+◌, Bool, true, false, List, [], ◌∷◌, ◌++◌, length, drop, Option, Some, None, unwrap_or}
-use Rattle.vtep_base.specs.Reading.{Bytes}
+use Rattle.std.specs.Prelude.{ℕ, ◌+◌, true, false, List, [], ◌∷◌, ◌++◌, length, drop, Option, Some, None, unwrap_or}
 use Rattle.serde_json.specs.Data.{Data}
 use Rattle.transact_profile.specs.declared.known.Known.{Known}
 use Rattle.transact_profile.specs.declared.operations.Op.{Op}

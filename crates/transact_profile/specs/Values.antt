@@ -1,16 +1,15 @@
 -- Values as they stand in operations, and the columns, functions and mutators that take them.
 -- Of each value its notation is looked at first, then the names in it, then its range and size.
-use Rattle.std.specs.Prelude.{ℕ, Bool, true, false, not, ◌&&◌, ◌||◌, nat_le, ◌==◌, if◌then◌else◌, List, [], ◌∷◌, map, length, Option, Some, None, is_some, is_none, option_map, unwrap_or, codes, Ok, Err}
+use Rattle.std.specs.Prelude.{Bool, true, false, not, ◌&&◌, ◌||◌, nat_le, ◌==◌, if◌then◌else◌, List, [], map, length, Option, Some, None, is_some, is_none, option_map, codes, Ok}
 use Rattle.std.specs.List.{list_all, list_any}
 use Rattle.std.specs.Char.{to_ascii_lowercase}
 use Rattle.vtep_base.specs.Reading.{Bytes, same_bytes}
 use Rattle.vtep_base.specs.Addresses.{mac_of}
 use Rattle.vtep_base.specs.declared.words.Word.TheVariants as word
-use Rattle.vtep_base.specs.declared.shapes.Kind.{Kind}
 use Rattle.vtep_base.specs.declared.shapes.Kind.TheVariants as kind
 use Rattle.serde_json.specs.Data.{Data}
 use Rattle.ovsdb_values.specs.declared.atoms.Atom.{Atom}
-use Rattle.ovsdb_values.specs.declared.atoms.Atom.TheVariants.{Integer, Text, Id, Named}
+use Rattle.ovsdb_values.specs.declared.atoms.Atom.TheVariants.{Text, Named}
 use Rattle.ovsdb_values.specs.declared.datums.Datum.{Datum}
 use Rattle.ovsdb_values.specs.declared.datums.Datum.TheVariants as datum
 use Rattle.ovsdb_values.specs.Atoms.{set_from, map_from}

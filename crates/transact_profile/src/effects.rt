@@ -1,6 +1,6 @@
 //! What operations do to rows.
 
-ghost use Rattle.std.specs.Prelude.{◌≡◌, IfOk};
+ghost use Rattle.std.specs.Prelude.{◌≡◌, IfOk, OnOk};
 ghost use Rattle.vtep_base.specs.declared.words.Word.TheVariants as word;
 ghost use Rattle.vtep_rows.specs.Row.{filled_row};
 ghost use Rattle.vtep_rows.specs.Rows.{row_at};
@@ -22,7 +22,7 @@ use crate::waiting::{same_rows, waits_for};
 use ovsdb_values::Datum;
 use std::alloc::Global;
 use vtep_base::{List, OutOfMemory, RowId, Txt, Word};
-use vtep_rows::{Row, RowFault, Rows, RowsFault};
+use vtep_rows::{Database, Row, RowFault, Rows, RowsFault};
 use vtep_schema::{Column, Table};
 
 const OUT_OF_BOUNDS: Fault = Fault::Refused(Word::ConstraintViolation);
@@ -40,14 +40,16 @@ fn filled(alloc: Global, table: Table, values: List<(Column, Datum)>) -> Result<
 
 fn insert(
     alloc: Global,
-    rows: &mut Rows,
+    database: &mut Database,
     table: Table,
     values: List<(Column, Datum)>,
 ) -> Result<OpResult, Fault>
-    ensures { ReadsAs (λ reply. (seen reply, rows.new)) result (insert table values rows.old) }
+    ensures value { ReadsAs (λ reply. (seen reply, database.new.current)) result
+        (insert table values database.old.current) }
+    ensures committed { database.new.committed ≡ database.old.committed }
 {
     let row = filled(alloc, table, values)?;
-    match rows.insert(table, row) {
+    match database.insert(table, row) {
         Ok(id) => Ok(OpResult::Inserted(id)),
         Err(RowsFault::OutOfMemory) => Err(Fault::OutOfMemory),
         Err(RowsFault::Spent) => Err(OUT_OF_BOUNDS),
@@ -75,115 +77,126 @@ fn changed(alloc: Global, row: &Row, edit: Edit<'_>) -> Result<Row, Fault>
 
 fn change_at(
     alloc: Global,
-    rows: &mut Rows,
+    database: &mut Database,
     table: Table,
     id: RowId,
     edit: Edit<'_>,
 ) -> Result<(), Fault>
-    ensures { ReadsAs (λ done. rows.new) result
-        (changed_at table id (changed edit.entry) (row_at rows.old (table, id)) rows.old) }
+    ensures value { ReadsAs (λ done. database.new.current) result
+        (changed_at table id (changed edit.entry) (row_at database.old.current (table, id))
+        database.old.current) }
+    ensures committed { database.new.committed ≡ database.old.committed }
 {
-    let Some(row) = rows.get(table, id) else {
+    let Some(row) = database.rows().get(table, id) else {
         return Ok(());
     };
     let new = changed(alloc, row, edit)?;
-    rows.replace(table, id, new)?;
+    database.replace(table, id, new)?;
     Ok(())
 }
 
 fn change_each(
     alloc: Global,
-    rows: &mut Rows,
+    database: &mut Database,
     table: Table,
     edit: Edit<'_>,
     ids: &[RowId],
 ) -> Result<(), Fault>
-    ensures { ReadsAs (λ done. rows.new) result
-        (change_each table (changed edit.entry) ids.now rows.old) }
+    ensures value { ReadsAs (λ done. database.new.current) result
+        (change_each table (changed edit.entry) ids.now database.old.current) }
+    ensures committed { database.new.committed ≡ database.old.committed }
 {
     'ids: for id in ids {
-        change_at(alloc, rows, table, *id, edit)?;
+        change_at(alloc, database, table, *id, edit)?;
     }
     Ok(())
 }
 
-fn remove_each(rows: &mut Rows, table: Table, ids: &[RowId])
-    ensures { rows.new ≡ remove_each table ids.now rows.old }
+fn remove_each(database: &mut Database, table: Table, ids: &[RowId]) -> Result<(), OutOfMemory>
+    ensures value { OnOk result (database.new.current
+        ≡ remove_each table ids.now database.old.current) }
+    ensures committed { database.new.committed ≡ database.old.committed }
 {
     'ids: for id in ids {
-        let _row = rows.remove(table, *id);
+        database.remove(table, *id)?;
     }
+    Ok(())
 }
 
 #[tactic(auto, unfolding(crate::specs::Meaning::change))]
 fn count_changed(
     alloc: Global,
-    rows: &mut Rows,
+    database: &mut Database,
     table: Table,
     edit: Edit<'_>,
     ids: &[RowId],
 ) -> Result<OpResult, Fault>
-    ensures { ReadsAs (λ reply. (seen reply, rows.new)) result
-        (change table (changed edit.entry) ids.now rows.old) }
+    ensures value { ReadsAs (λ reply. (seen reply, database.new.current)) result
+        (change table (changed edit.entry) ids.now database.old.current) }
+    ensures committed { database.new.committed ≡ database.old.committed }
 {
-    change_each(alloc, rows, table, edit, ids)?;
+    change_each(alloc, database, table, edit, ids)?;
     Ok(OpResult::Count(ids.len() as u64))
 }
 
 #[tactic(auto, unfolding(crate::specs::Meaning::change_step))]
 fn change(
     alloc: Global,
-    rows: &mut Rows,
+    database: &mut Database,
     table: Table,
     conditions: &[Condition],
     edit: Edit<'_>,
 ) -> Result<OpResult, Fault>
-    ensures { ReadsAs (λ reply. (seen reply, rows.new)) result
-        (change_step table conditions.now (changed edit.entry) rows.old) }
+    ensures value { ReadsAs (λ reply. (seen reply, database.new.current)) result
+        (change_step table conditions.now (changed edit.entry) database.old.current) }
+    ensures committed { database.new.committed ≡ database.old.committed }
 {
-    let ids = selected(alloc, rows, table, conditions)?;
-    count_changed(alloc, rows, table, edit, ids.as_slice())
+    let ids = selected(alloc, database.rows(), table, conditions)?;
+    count_changed(alloc, database, table, edit, ids.as_slice())
 }
 
 #[tactic(auto, unfolding(crate::specs::Meaning::update_step))]
 fn update(
     alloc: Global,
-    rows: &mut Rows,
+    database: &mut Database,
     table: Table,
     conditions: &[Condition],
     values: &[(Column, Datum)],
 ) -> Result<OpResult, Fault>
-    ensures { ReadsAs (λ reply. (seen reply, rows.new)) result
-        (update_step table conditions.now values.now rows.old) }
+    ensures value { ReadsAs (λ reply. (seen reply, database.new.current)) result
+        (update_step table conditions.now values.now database.old.current) }
+    ensures committed { database.new.committed ≡ database.old.committed }
 {
-    change(alloc, rows, table, conditions, Edit::Write(values))
+    change(alloc, database, table, conditions, Edit::Write(values))
 }
 
 #[tactic(auto, unfolding(crate::specs::Meaning::mutate_step))]
 fn mutate(
     alloc: Global,
-    rows: &mut Rows,
+    database: &mut Database,
     table: Table,
     conditions: &[Condition],
     mutations: &[Mutation],
 ) -> Result<OpResult, Fault>
-    ensures { ReadsAs (λ reply. (seen reply, rows.new)) result
-        (mutate_step table conditions.now mutations.now rows.old) }
+    ensures value { ReadsAs (λ reply. (seen reply, database.new.current)) result
+        (mutate_step table conditions.now mutations.now database.old.current) }
+    ensures committed { database.new.committed ≡ database.old.committed }
 {
-    change(alloc, rows, table, conditions, Edit::Mutate(mutations))
+    change(alloc, database, table, conditions, Edit::Mutate(mutations))
 }
 
 fn delete(
     alloc: Global,
-    rows: &mut Rows,
+    database: &mut Database,
     table: Table,
     conditions: &[Condition],
 ) -> Result<OpResult, OutOfMemory>
-    ensures { IfOk result (λ reply. (seen reply, rows.new)
-        ≡ delete table (selected table conditions.now rows.old) rows.old) }
+    ensures value { IfOk result (λ reply. (seen reply, database.new.current)
+        ≡ delete table (selected table conditions.now database.old.current) database.old.current) }
+    ensures committed { database.new.committed ≡ database.old.committed }
 {
-    let ids = selected(alloc, rows, table, conditions)?;
-    remove_each(rows, table, ids.as_slice());
+    let ids = selected(alloc, database.rows(), table, conditions)?;
+    remove_each(database, table, ids.as_slice())?;
     Ok(OpResult::Count(ids.len() as u64))
 }
 
@@ -224,37 +237,45 @@ fn is_same(
 fn update_named(
     alloc: Global,
     names: &[(Txt, RowId)],
-    rows: &mut Rows,
+    database: &mut Database,
     table: Table,
     conditions: &List<Condition>,
     row: &List<(Column, Datum)>,
 ) -> Result<OpResult, Fault>
-    ensures { ReadsAs (λ reply. (seen reply, rows.new)) result
+    ensures value { ReadsAs (λ reply. (seen reply, database.new.current)) result
         (update_step table (resolved_conditions names.now conditions.now)
-        (resolved_cells names.now row.now) rows.old) }
+        (resolved_cells names.now row.now) database.old.current) }
+    ensures committed { database.new.committed ≡ database.old.committed }
 {
     let conditions = resolved_conditions(alloc, names, conditions.as_slice())?;
     let row = resolved_row(alloc, names, row.as_slice())?;
-    update(alloc, rows, table, conditions.as_slice(), row.as_slice())
+    update(
+        alloc,
+        database,
+        table,
+        conditions.as_slice(),
+        row.as_slice(),
+    )
 }
 
 fn mutate_named(
     alloc: Global,
     names: &[(Txt, RowId)],
-    rows: &mut Rows,
+    database: &mut Database,
     table: Table,
     conditions: &List<Condition>,
     mutations: &List<Mutation>,
 ) -> Result<OpResult, Fault>
-    ensures { ReadsAs (λ reply. (seen reply, rows.new)) result
+    ensures value { ReadsAs (λ reply. (seen reply, database.new.current)) result
         (mutate_step table (resolved_conditions names.now conditions.now)
-        (resolved_mutations names.now mutations.now) rows.old) }
+        (resolved_mutations names.now mutations.now) database.old.current) }
+    ensures committed { database.new.committed ≡ database.old.committed }
 {
     let conditions = resolved_conditions(alloc, names, conditions.as_slice())?;
     let mutations = resolved_mutations(alloc, names, mutations.as_slice())?;
     mutate(
         alloc,
-        rows,
+        database,
         table,
         conditions.as_slice(),
         mutations.as_slice(),
@@ -264,15 +285,16 @@ fn mutate_named(
 fn insert_named(
     alloc: Global,
     names: &[(Txt, RowId)],
-    rows: &mut Rows,
+    database: &mut Database,
     table: Table,
     row: &[(Column, Datum)],
 ) -> Result<OpResult, Fault>
-    ensures { ReadsAs (λ reply. (seen reply, rows.new)) result
-        (insert table (resolved_cells names.now row.now) rows.old) }
+    ensures value { ReadsAs (λ reply. (seen reply, database.new.current)) result
+        (insert table (resolved_cells names.now row.now) database.old.current) }
+    ensures committed { database.new.committed ≡ database.old.committed }
 {
     let row = resolved_row(alloc, names, row)?;
-    insert(alloc, rows, table, row)
+    insert(alloc, database, table, row)
 }
 
 fn select_named(
@@ -293,15 +315,16 @@ fn select_named(
 fn delete_named(
     alloc: Global,
     names: &[(Txt, RowId)],
-    rows: &mut Rows,
+    database: &mut Database,
     table: Table,
     conditions: &List<Condition>,
 ) -> Result<OpResult, Fault>
-    ensures { ReadsAs (λ reply. (seen reply, rows.new)) result
-        (delete_step table (resolved_conditions names.now conditions.now) rows.old) }
+    ensures value { ReadsAs (λ reply. (seen reply, database.new.current)) result
+        (delete_step table (resolved_conditions names.now conditions.now) database.old.current) }
+    ensures committed { database.new.committed ≡ database.old.committed }
 {
     let conditions = resolved_conditions(alloc, names, conditions.as_slice())?;
-    Ok(delete(alloc, rows, table, conditions.as_slice())?)
+    Ok(delete(alloc, database, table, conditions.as_slice())?)
 }
 
 /// Whether the rows that are waited for are those that are there.
@@ -337,29 +360,39 @@ fn is_same_named(
 pub(crate) fn run_op(
     alloc: Global,
     names: &[(Txt, RowId)],
-    rows: &mut Rows,
+    database: &mut Database,
     op: &Op,
 ) -> Result<OpResult, Fault>
-    ensures { ReadsAs (λ reply. (seen reply, rows.new)) result (run_op names.now op.now rows.old) }
+    ensures value { ReadsAs (λ reply. (seen reply, database.new.current)) result
+        (run_op names.now op.now database.old.current) }
+    ensures committed { database.new.committed ≡ database.old.committed }
 {
     match op {
-        Op::Insert { table, row, .. } => insert_named(alloc, names, rows, *table, row.as_slice()),
+        Op::Insert { table, row, .. } => insert_named(
+            alloc,
+            names,
+            database,
+            *table,
+            row.as_slice(),
+        ),
         Op::Select {
             table,
             conditions,
             columns,
-        } => select_named(alloc, names, rows, *table, conditions, columns),
+        } => select_named(alloc, names, database.rows(), *table, conditions, columns),
         Op::Update {
             table,
             conditions,
             row,
-        } => update_named(alloc, names, rows, *table, conditions, row),
+        } => update_named(alloc, names, database, *table, conditions, row),
         Op::Mutate {
             table,
             conditions,
             mutations,
-        } => mutate_named(alloc, names, rows, *table, conditions, mutations),
-        Op::Delete { table, conditions } => delete_named(alloc, names, rows, *table, conditions),
+        } => mutate_named(alloc, names, database, *table, conditions, mutations),
+        Op::Delete { table, conditions } => delete_named(
+            alloc, names, database, *table, conditions,
+        ),
         Op::Wait {
             table,
             conditions,
@@ -367,7 +400,15 @@ pub(crate) fn run_op(
             until,
             rows: given,
         } => {
-            let same = is_same_named(alloc, names, rows, *table, conditions, columns, given)?;
+            let same = is_same_named(
+                alloc,
+                names,
+                database.rows(),
+                *table,
+                conditions,
+                columns,
+                given,
+            )?;
             if !waits_for(*until, same) {
                 return Err(Fault::Refused(Word::TimedOut));
             }

@@ -24,5 +24,5 @@ mod waiting;
 pub use operations::{Condition, Field, Function, Mutation, Mutator, Op, OpFault, Ops, Until};
 pub use outcomes::{OpResult, Outcome};
 pub use results::finish;
-pub use running::transact;
+pub use running::{transact, transact_on};
 pub use transaction::read_ops;

@@ -12,7 +12,7 @@ use crate::operations::{Op, OpFault, Ops};
 use crate::outcomes::{OpResult, Outcome};
 use std::alloc::Global;
 use vtep_base::{List, OutOfMemory, RowId, Txt, Word};
-use vtep_rows::Rows;
+use vtep_rows::{Database, Rows};
 
 /// The names of the insertions, and the identifiers that their rows take.
 fn names_of(
@@ -44,19 +44,20 @@ struct Ran {
 fn run_all(
     alloc: Global,
     names: &[(Txt, RowId)],
-    rows: &mut Rows,
+    database: &mut Database,
     ops: &[Op],
 ) -> Result<Ran, OutOfMemory>
     ensures results { IfOk result (λ ran. map seen ran.results
-        ≡ (run_from names.now [] rows.old ops.now).results) }
+        ≡ (run_from names.now [] database.old.current ops.now).results) }
     ensures stopped { IfOk result (λ ran. ran.stopped
-        ≡ (run_from names.now [] rows.old ops.now).stopped) }
-    ensures rows { IfOk result (λ ran. ran.stopped ≡ None → rows.new
-        ≡ (run_from names.now [] rows.old ops.now).rows) }
+        ≡ (run_from names.now [] database.old.current ops.now).stopped) }
+    ensures rows { IfOk result (λ ran. ran.stopped ≡ None → database.new.current
+        ≡ (run_from names.now [] database.old.current ops.now).rows) }
+    ensures committed { database.new.committed ≡ database.old.committed }
 {
     let mut results = List::new(alloc);
     'ops: for op in ops {
-        match run_op(alloc, names, rows, op) {
+        match run_op(alloc, names, database, op) {
             Ok(outcome) => results.push(outcome)?,
             Err(Fault::OutOfMemory) => return Err(OutOfMemory),
             Err(Fault::Refused(word)) => {
@@ -96,8 +97,9 @@ fn add_failure(results: &mut List<OpResult>, word: Word, count: u64) -> Result<(
     add_nulls(results, count.saturating_sub(results.len() as u64))
 }
 
-/// Runs operations in their order (RFC 7047, section 5.2). Where one fails or can't be read it has its word, each later one
-/// has nothing, and the rows are as before, also their counter.
+/// Runs operations in their order, on the current rows of a database (RFC 7047, section 5.2). Where one fails or can't be read
+/// it has its word, each later one has nothing, and the rows are as before, also their counter. It costs what the operations
+/// touch, also where one fails.
 ///
 /// - `insert` makes a row of the next number, with the default of each column that is not given. It fails with `constraint
 ///   violation` where all numbers are given.
@@ -110,6 +112,41 @@ fn add_failure(results: &mut List<OpResult>, word: Word, count: u64) -> Result<(
 /// - `wait` fails with `timed out` where the rows that meet the conditions, cut to its columns, and the rows that it gives are
 ///   not the same set, or are, as it asks.
 /// - `commit` fails with `not supported` where it asks for durability, and `abort` always fails with `aborted`.
+///
+/// After an `Err` nothing is said of the database.
+pub fn transact_on(
+    alloc: Global,
+    database: &mut Database,
+    ops: &Ops,
+) -> Result<Outcome, OutOfMemory>
+    requires { database.old.current ≡ database.old.committed }
+    ensures results { IfOk result (λ outcome. map seen outcome.results
+        ≡ (means ops.now database.old.current).results) }
+    ensures failed { IfOk result (λ outcome. outcome.failed
+        ≡ (means ops.now database.old.current).failed) }
+    ensures rows { OnOk result (database.new ≡ record database.old
+        { current = (means ops.now database.old.current).rows }) }
+{
+    let names = names_of(alloc, database.rows(), ops.names.as_slice())?;
+    let ran = run_all(alloc, names.as_slice(), database, ops.ops.as_slice())?;
+    let mut results = ran.results;
+    match first_word(ran.stopped, ops.fault) {
+        None => Ok(Outcome {
+            results,
+            failed: false,
+        }),
+        Some(word) => {
+            database.roll_back()?;
+            add_failure(&mut results, word, ops.count)?;
+            Ok(Outcome {
+                results,
+                failed: true,
+            })
+        }
+    }
+}
+
+/// Runs operations in their order, on rows, as `transact_on` does on a database. After an `Err` the rows are as before.
 pub fn transact(alloc: Global, rows: &mut Rows, ops: &Ops) -> Result<Outcome, OutOfMemory>
     ensures results { IfOk result (λ outcome. map seen outcome.results
         ≡ (means ops.now rows.old).results) }
@@ -119,26 +156,10 @@ pub fn transact(alloc: Global, rows: &mut Rows, ops: &Ops) -> Result<Outcome, Ou
     ensures kept { IfOk result (λ outcome. outcome.failed ≡ true → rows.new ≡ rows.old) }
     ensures err { OnErr result (rows.new ≡ rows.old) }
 {
-    let names = names_of(alloc, rows, ops.names.as_slice())?;
-    let mut after = rows.copy(alloc)?;
-    let ran = run_all(alloc, names.as_slice(), &mut after, ops.ops.as_slice())?;
-    let mut results = ran.results;
-    match first_word(ran.stopped, ops.fault) {
-        None => {
-            *rows = after;
-            Ok(Outcome {
-                results,
-                failed: false,
-            })
-        }
-        Some(word) => {
-            add_failure(&mut results, word, ops.count)?;
-            Ok(Outcome {
-                results,
-                failed: true,
-            })
-        }
-    }
+    let mut database = Database::new(alloc, rows.copy(alloc)?);
+    let outcome = transact_on(alloc, &mut database, ops)?;
+    *rows = database.into_rows();
+    Ok(outcome)
 }
 
 fn first_word(stopped: Option<Word>, fault: Option<OpFault>) -> Option<Word>

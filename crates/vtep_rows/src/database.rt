@@ -1,10 +1,10 @@
 //! The rows of a gateway, with what they were at the last commit.
 
-ghost use Rattle.std.specs.Prelude.{◌≡◌, ◌+◌, ◌||◌, true, None, is_some, map, filter, filter_map, option_map, IfOk, IfErr, IfSome, OnOk, OnErr};
+ghost use Rattle.std.specs.Prelude.{◌≡◌, ◌<◌, ◌+◌, ◌||◌, true, None, is_some, map, filter, filter_map, option_map, IfOk, IfErr, IfSome, OnOk, OnErr};
 ghost use Rattle.vtep_schema.specs.Tables.{same_table, table_place};
 ghost use Rattle.vtep_base.specs.Maps.{Map};
 ghost use Rattle.vtep_rows.specs.Row.{Contents};
-ghost use Rattle.vtep_rows.specs.Rows.{Key, key_cmp, IsRows, row_at, next_id, inserted, replaced, removed, has_key, collected};
+ghost use Rattle.vtep_rows.specs.Rows.{Key, key_cmp, IsRows, row_at, next_id, last_number, inserted, replaced, removed, has_key, collected};
 ghost use Rattle.vtep_rows.specs.Faults.{IsSpentOrMemory};
 ghost use Rattle.vtep_rows.specs.Changes.{changes};
 ghost use Rattle.vtep_rows.specs.Sound.{broken};
@@ -99,6 +99,7 @@ impl Database {
         ensures ok { OnOk result (self.new
             ≡ record self.old { current = inserted self.old.current row }) }
         ensures id { IfOk result (λ id. id ≡ next_id self.old.current) }
+        ensures room { OnOk result (self.old.current.counter < last_number) }
         ensures err { OnErr result (self.new ≡ self.old) }
         ensures spent { IfErr result (λ fault. IsSpentOrMemory fault self.old.current) }
     {

@@ -1,10 +1,10 @@
 //! What rows were before they were written.
 
-ghost use Rattle.std.specs.Prelude.{◌≡◌, ◌++◌, ◌&&◌, ◌||◌, true, [], None, filter_map, option_map, IfOk, IfErr, OnOk, OnErr};
+ghost use Rattle.std.specs.Prelude.{◌≡◌, ◌<◌, ◌++◌, ◌&&◌, ◌||◌, true, [], None, filter_map, option_map, IfOk, IfErr, OnOk, OnErr};
 ghost use Rattle.std.specs.List.{cons_option};
 ghost use Rattle.vtep_base.specs.Maps as maps;
 ghost use Rattle.vtep_schema.specs.Tables.{same_table};
-ghost use Rattle.vtep_rows.specs.Rows.{Key, has_key, same_key, row_at, next_id, inserted, replaced, removed, is_given};
+ghost use Rattle.vtep_rows.specs.Rows.{Key, has_key, same_key, row_at, next_id, last_number, inserted, replaced, removed, is_given};
 ghost use Rattle.vtep_rows.specs.Faults.{IsSpentOrMemory};
 ghost use Rattle.vtep_rows.specs.Changes.{differ};
 ghost use Rattle.vtep_rows.specs.Database.{remembered, changed_at, differing_in, image_fits, images_fit, backed, all_backed, dangles, doubled, any_dangles, any_doubled, may_go, image_names};
@@ -109,6 +109,7 @@ impl Images {
         ensures images { OnOk result
             (self.new ≡ remembered self.old rows.old (table, next_id rows.old)) }
         ensures id { IfOk result (λ id. id ≡ next_id rows.old) }
+        ensures room { OnOk result (rows.old.counter < last_number) }
         ensures rows_err { OnErr result (rows.new ≡ rows.old) }
         ensures images_err { OnErr result (self.new ≡ self.old) }
         ensures spent { IfErr result (λ fault. IsSpentOrMemory fault rows.old) }

@@ -4,4 +4,6 @@ use Rattle.transact_profile.specs.Meaning.{run_from}
 use Rattle.transact_profile.proofs.running.run_all.Given as goal
 
 abbrev pub invariant-ops : goal.invariant-ops
-invariant-ops l = run_from l.names (map seen l.results) l.rows (drop l.op-index l.ops) ≡ run_from l.names [] l.fn.rows l.ops
+invariant-ops l =
+    (run_from l.names (map seen l.results) l.database.current (drop l.op-index l.ops) ≡ run_from l.names [] l.fn.database.current l.ops)
+    × (l.database.committed ≡ l.fn.database.committed)
