@@ -1,0 +1,2 @@
+pub mod LeastDecides
+pub mod Placed
