@@ -23,9 +23,10 @@ pub struct Locators {
 
 impl Model for Locators {
     ghost use Rattle.vtep_base.specs.Maps as maps;
-    ghost use Rattle.locator_sets.specs.Locators.{Locators as All, locators_code};
+    ghost use Rattle.locator_sets.specs.Locators as locators;
+    ghost use Rattle.locator_sets.specs.Locators.{locators_code};
 
-    ghost Value = { All };
+    ghost Value = { locators.Locators };
 
     ghost coded = { locators_code };
 
