@@ -1,0 +1,4 @@
+pub mod RowsThere
+pub mod Bounds
+pub mod Puts
+pub mod PortEntries

@@ -1,0 +1,13 @@
+//! The forwarding state of a gateway, made of its rows, and where it sends frames.
+#![tactic(auto)]
+
+mod facts;
+mod fib;
+mod held;
+mod readings;
+mod spots;
+
+pub use facts::{Fact, Place};
+pub use fib::Fib;
+pub use held::{Few, Held, Lists};
+pub use spots::{Part, Spot};
