@@ -1,10 +1,10 @@
 -- How large the numbers are that columns allow.
-use Rattle.std.proofs.Common.{◌≡◌, ◌≤◌, ℕ, ℤ, pos, negsuc, Bool, true, false, ◌&&◌, List, [], ◌∷◌, Option, Some, None, refl, sym, ap, ◌∙◌, nat_le, length, arith}
+use Rattle.std.proofs.Common.{◌≡◌, ◌≤◌, ℕ, pos, true, List, [], ◌∷◌, Option, Some, sym, ap, ◌∙◌, length, arith}
 use Rattle.std.proofs.lemmas.Bool.Decides.{nat_tests}
 use Rattle.std.specs.List.{list_all, filter_map}
 use Rattle.std.specs.Cmp.{first_so, second_so}
 use Rattle.ovsdb_values.specs.declared.atoms.Atom.{Atom}
-use Rattle.ovsdb_values.specs.declared.atoms.Atom.TheVariants.{Integer, Text, Id, Named}
+use Rattle.ovsdb_values.specs.declared.atoms.Atom.TheVariants.{Integer}
 use Rattle.ovsdb_values.specs.declared.datums.Datum.{Datum}
 use Rattle.ovsdb_values.specs.declared.datums.Datum.TheVariants as datum
 use Rattle.vtep_schema.specs.declared.rules.Domain.TheVariants as domain

@@ -2,3 +2,4 @@ pub mod RowsThere
 pub mod Bounds
 pub mod Puts
 pub mod PortEntries
+pub mod Cleared

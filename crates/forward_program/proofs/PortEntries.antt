@@ -1,5 +1,5 @@
 -- The entries of a port, pair by pair of its vlan_bindings.
-use Rattle.std.proofs.Common.{◌≡◌, Result, OnOk, ℕ, ℤ, pos, negsuc, Bool, true, false, cond, ◌&&◌, List, [], ◌∷◌, ◌++◌, map, Option, Some, None, refl, sym, ap, ◌∙◌, nat_le, nat_lt, arith}
+use Rattle.std.proofs.Common.{◌≡◌, Result, OnOk, ℕ, pos, negsuc, Bool, true, false, cond, ◌&&◌, List, [], ◌∷◌, ◌++◌, map, Option, Some, None, refl, sym, ap, ◌∙◌, arith}
 use Rattle.std.proofs.lemmas.Bool.Decides.{nat_tests}
 use Rattle.std.specs.Prelude.{◌==◌, int_lt}
 use Rattle.std.specs.List.{list_all, filter_map, flat_map, cons_option, AllByRecursion}
@@ -7,7 +7,6 @@ use Rattle.std.specs.List.Sorted.{IsStrictlySortedBy}
 use Rattle.std.specs.Map.{keys_of}
 use Rattle.std.specs.Cmp.{first_so, second_so, nat_cmp_total}
 use Rattle.std.specs.Ordering.{nat_cmp, ordering_then}
-use Rattle.std.specs.declared.cmp.Ordering.{Ordering}
 use Rattle.std.specs.declared.cmp.Ordering.TheVariants.{Less, Equal, Greater}
 use Rattle.vtep_base.specs.Reading.{Bytes}
 use Rattle.vtep_base.specs.declared.answers.Mode.{Mode}
@@ -85,7 +84,7 @@ pub port_is : (row : Contents) (port : Bytes) (d : Datum) (ps qs : List (Atom ×
 port_is row port d ps qs named value is same sorted =
     let all : pairs_at row PortVlanBindings ≡ qs = ap map_in (sym value ∙ is) ∙ sym same in
     let kept : vlan_bindings row ≡ filter_map number_and_id qs =
-        ap (λ xs. (maps.map_by nat_cmp (filter_map number_and_id xs)).list) all ∙ list-of_list nat_cmp_total (filter_map number_and_id qs) (numbers_sorted qs sorted) in
+    ap (λ xs. (maps.map_by nat_cmp (filter_map number_and_id xs)).list) all ∙ list-of_list nat_cmp_total (filter_map number_and_id qs) (numbers_sorted qs sorted) in
     pairs_are port row qs ∙ ap (λ bs. flat_map binding_entries (map (binding port row) bs)) (sym kept) ∙ ap (λ o. flat_map binding_entries (bindings_with row o)) named
 
 pub pair_put : (r : Result (Unit {0}) OutOfMemory) (m n : Entries) (port : Bytes) (row : Contents) (bound : ℕ × ℕ) (lists : Lists) (o : Option (ℕ × ℕ))

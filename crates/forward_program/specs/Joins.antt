@@ -1,5 +1,5 @@
 -- Facts as joins of a few entries of the forwarding state.
-use Rattle.std.specs.Prelude.{◌≡◌, ℕ, Bool, true, false, ◌||◌, ◌==◌, if◌then◌else◌, List, [], ◌∷◌, map, filter_map, Option, Some, None, option_map, option_and_then, unwrap_or}
+use Rattle.std.specs.Prelude.{ℕ, Bool, true, false, ◌||◌, ◌==◌, if◌then◌else◌, List, [], ◌∷◌, filter_map, Option, Some, None, option_map, option_and_then}
 use Rattle.vtep_base.specs.Reading.{Bytes}
 use Rattle.vtep_base.specs.Maps as maps
 use Rattle.vtep_base.specs.declared.Mode.{Mode}
@@ -17,8 +17,8 @@ use Rattle.forward_program.specs.declared.facts.Fact.{Fact}
 use Rattle.forward_program.specs.declared.facts.Fact.TheVariants as fact
 use Rattle.forward_program.specs.declared.facts.Place.{Place}
 use Rattle.forward_program.specs.declared.facts.Place.TheVariants.{Here, There}
-use Rattle.forward_program.specs.declared.fib.Step.{Step}
-use Rattle.forward_program.specs.declared.fib.Step.TheVariants as step
+use Rattle.forward_program.specs.declared.looks.Step.{Step}
+use Rattle.forward_program.specs.declared.looks.Step.TheVariants as step
 use Rattle.forward_program.specs.Places.{is_here}
 use Rattle.forward_program.specs.Built.{if_bound, acl_rows, flood_to}
 use Rattle.forward_program.specs.Spots.{spot_cmp, Entries}
@@ -71,15 +71,23 @@ abbrev pub locators_in : Option Held → List ℕ
 locators_in (Some (held.Members locators)) = locators
 locators_in _ = []
 
+abbrev pub locators_at : Entries → ℕ → List ℕ
+locators_at m set = locators_in (maps.get m (spot.Set set))
+
 abbrev pub addresses_at : Entries → ℕ → List ℕ
-addresses_at m set = ascending (filter_map (address_at m) (locators_in (maps.get m (spot.Set set))))
+addresses_at m set = ascending (filter_map (address_at m) (locators_at m set))
 
 -- ---- the bindings of a switch: they stand behind it
 
--- what an entry is behind a switch
+-- what a part of a switch is behind it: its own row, and a member without lists, are passed over
+abbrev pub part_step : Part → Held → Step
+part_step part.Itself h = step.Itself
+part_step (part.Member port vlan) (held.Lists lists) = step.Member port vlan lists
+part_step (part.Member port vlan) h = step.Itself
+part_step _ h = step.Other
+
 abbrev pub step_of : ℕ → Spot × Held → Step
-step_of switch (spot.Switch s part.Itself, h) = if s == switch then step.Itself else step.Other
-step_of switch (spot.Switch s (part.Member port vlan), held.Lists lists) = if s == switch then step.Member port vlan lists else step.Other
+step_of switch (spot.Switch s p, h) = if s == switch then part_step p h else step.Other
 step_of switch _ = step.Other
 
 abbrev pub after_step : Step → List (Port × Lists) → List (Port × Lists)

@@ -4,3 +4,4 @@ pub mod Built
 pub mod Spots
 pub mod Shown
 pub mod Joins
+pub mod Inserts

@@ -1,5 +1,5 @@
 -- The entries of the forwarding state of rows: one for each row, and two for each pair of vlan_bindings.
-use Rattle.std.specs.Prelude.{ℕ, List, [], ◌∷◌, ◌++◌, map, flat_map, Option, Some, None}
+use Rattle.std.specs.Prelude.{ℕ, List, [], ◌∷◌, flat_map, Option, Some, None}
 use Rattle.vtep_base.specs.Reading.{Bytes}
 use Rattle.vtep_base.specs.Maps as maps
 use Rattle.vtep_schema.specs.declared.Table.{Table}

@@ -26,7 +26,10 @@ impl Place {
 #[derive(Drop)]
 pub enum Fact {
     /// A bound switch and its network.
-    Vni { vni: Vni, switch: RowId },
+    Vni {
+        vni: Vni,
+        switch: RowId,
+    },
     /// A VLAN of a port, the switch that it is bound to, and its ACLs, that of key 0 first.
     Bind {
         port: Name,

@@ -4,26 +4,30 @@ ghost use Rattle.std.specs.Prelude.{◌≡◌, ◌≤◌, ◌+◌, ◌++◌, ℕ
 ghost use Rattle.std.specs.List.{list_all};
 ghost use Rattle.std.specs.Option.{option_to_list};
 ghost use Rattle.vtep_base.specs.Maps as maps;
-ghost use Rattle.vtep_rows.specs.Row.{put_all, ids_at, id_in};
+ghost use Rattle.vtep_rows.specs.Row.{put_all, ids_at, id_in, first};
+ghost use Rattle.vtep_rows.specs.Rows.{Rows as AllRows};
+ghost use Rattle.vtep_rows.specs.Sound.{Sound};
+ghost use Rattle.vtep_rows.specs.Changes.{changes};
 ghost use Rattle.forward_program.specs.Readings.{own_address, number_and_id, is_vlan};
 ghost use Rattle.forward_program.specs.Shown.{binding_entries, pair_entries, vni_entries, row_entries, table_entries, forward_tables, all_entries, shown};
-ghost use Rattle.forward_program.specs.Joins.{step_of, is_bound_at, bound_at, network_at, address_at, place_by, place_at, found_at};
 
-use crate::facts::Place;
 use crate::held::{Few, Held, Lists};
-use crate::readings::{lists, mode, other_address, own_address, port_name, read_group, read_remote, tunnel_key, vlan_and_switch};
+use crate::readings::{
+    lists, mode, other_address, own_address, port_name, read_group, read_remote, tunnel_key,
+    vlan_and_switch,
+};
 use crate::spots::{Part, Spot};
 use ovsdb_values::{Atom, Datum};
 use std::alloc::Global;
 use std::marker::Model;
-use vtep_base::{Counted, Ipv4, Ledger, Mac, Name, OutOfMemory, RowId, Steps, Vlan, Vni};
-use vtep_rows::{Row, Rows};
+use vtep_base::{Counted, Ipv4, Ledger, Name, OutOfMemory, RowId, Steps, Vlan, Vni};
+use vtep_rows::{Change, Row, Rows};
 use vtep_schema::{Column, Table};
 
 /// The forwarding state of a gateway. Contracts see its entries, and whether want of memory broke it.
 #[derive(Drop)]
 pub struct Fib<L: Ledger> {
-    entries: Counted<L, Spot, Held>,
+    pub(crate) entries: Counted<L, Spot, Held>,
     broken: bool,
 }
 
@@ -36,28 +40,6 @@ impl<L: Ledger> Model for Fib<L> {
     ghost coded = { state_code };
 
     ghost view = { λ f. record { entries = maps.of_list f.entries; broken = f.broken } };
-}
-
-/// What an entry is behind a switch.
-#[derive(Clone, Copy)]
-pub enum Step {
-    Itself,
-    Member(Name, Vlan, Lists),
-    Other,
-}
-
-impl Step {
-    pub(crate) fn of(switch: RowId, spot: &Spot, held: &Held) -> Step
-        ensures { result ≡ step_of switch (spot.now, held.now) }
-    {
-        match (spot, held) {
-            (Spot::Switch(id, Part::Itself), _) if *id == switch => Step::Itself,
-            (Spot::Switch(id, Part::Member(port, vlan)), Held::Lists(lists)) if *id == switch => {
-                Step::Member(*port, *vlan, *lists)
-            }
-            _ => Step::Other,
-        }
-    }
 }
 
 /// The tables that the forwarding state is made of.
@@ -143,7 +125,11 @@ impl<L: Ledger> Fib<L> {
     {
         let (vlan, switch) = bound;
         self.put(Spot::Port(port, vlan), Held::Bound { switch, lists }, steps)?;
-        self.put(Spot::Switch(switch, Part::Member(port, vlan)), Held::Lists(lists), steps)
+        self.put(
+            Spot::Switch(switch, Part::Member(port, vlan)),
+            Held::Lists(lists),
+            steps,
+        )
     }
 
     fn put_pair(
@@ -240,7 +226,11 @@ impl<L: Ledger> Fib<L> {
             here: None,
             there: Some(remote.locator),
         };
-        self.put(Spot::Switch(remote.switch, Part::Host(remote.mac)), held, steps)
+        self.put(
+            Spot::Switch(remote.switch, Part::Host(remote.mac)),
+            held,
+            steps,
+        )
     }
 
     fn put_group(&mut self, id: RowId, row: &Row, steps: &mut Steps<L>) -> Result<(), OutOfMemory>
@@ -335,12 +325,7 @@ impl<L: Ledger> Fib<L> {
         Ok(())
     }
 
-    fn fill(
-        &mut self,
-        alloc: Global,
-        rows: &Rows,
-        steps: &mut Steps<L>,
-    ) -> Result<(), OutOfMemory>
+    fn fill(&mut self, alloc: Global, rows: &Rows, steps: &mut Steps<L>) -> Result<(), OutOfMemory>
         requires { IsSome (own_address rows.now) }
         ensures ok { OnOk result (self.new.entries
             ≡ put_all self.old.entries (all_entries rows.now)) }
@@ -355,12 +340,8 @@ impl<L: Ledger> Fib<L> {
         Ok(())
     }
 
-    /// The forwarding state of sound rows with an own address.
-    pub fn build(
-        alloc: Global,
-        rows: &Rows,
-        steps: &mut Steps<L>,
-    ) -> Result<Fib<L>, OutOfMemory>
+    /// The forwarding state of rows with an own address.
+    pub fn build(alloc: Global, rows: &Rows, steps: &mut Steps<L>) -> Result<Fib<L>, OutOfMemory>
         requires own { IsSome (own_address rows.now) }
         ensures state { IfOk result
             (λ fib. fib ≡ record { entries = shown rows.now; broken = false }) }
@@ -370,71 +351,55 @@ impl<L: Ledger> Fib<L> {
         Ok(fib)
     }
 
-    pub(crate) fn is_bound(&self, switch: RowId) -> bool
-        ensures { result ≡ is_bound_at self.now.entries switch }
+    fn first(&self) -> Option<Spot>
+        ensures { result ≡ first (maps.keys self.now.entries) }
     {
-        'members: for (spot, held) in self.entries.walk(Some(&Spot::Switch(switch, Part::Itself))) {
-            match Step::of(switch, spot, held) {
-                Step::Itself => {}
-                Step::Member(..) => return true,
-                Step::Other => return false,
-            }
-        }
-        false
+        let (spot, _) = self.entries.walk(None).next()?;
+        Some(*spot)
     }
 
-    fn address(&self, locator: RowId) -> Option<Ipv4>
-        ensures { result ≡ address_at self.now.entries locator }
+    fn remove(&mut self, spot: &Spot, steps: &mut Steps<L>)
+        ensures entries { self.new.entries ≡ maps.remove self.old.entries spot.now }
+        ensures same { self.new.broken ≡ self.old.broken }
     {
-        match self.entries.find(&Spot::Locator(locator)) {
-            Some(Held::Address(ip)) => Some(*ip),
-            _ => None,
-        }
+        let _ = self.entries.remove(spot, steps);
     }
 
-    pub(crate) fn network(&self, vni: Vni) -> Option<RowId>
-        ensures { result ≡ network_at self.now.entries vni }
+    fn clear(&mut self, steps: &mut Steps<L>)
+        ensures entries { self.new.entries ≡ maps.empty }
+        ensures same { self.new.broken ≡ self.old.broken }
     {
-        match self.entries.find(&Spot::Vni(vni)) {
-            Some(Held::Of(switch)) => {
-                if self.is_bound(*switch) {
-                    Some(*switch)
-                } else {
-                    None
-                }
-            }
-            _ => None,
+        'entries: while let Some(spot) = self.first() {
+            self.remove(&spot, steps);
         }
     }
 
-    pub(crate) fn place(&self, switch: RowId, mac: Mac) -> Option<Place>
-        ensures { result ≡ place_at self.now.entries switch mac }
+    fn set_broken(&mut self, broken: bool)
+        ensures { self.new ≡ record self.old { broken = broken } }
     {
-        match self.entries.find(&Spot::Switch(switch, Part::Host(mac))) {
-            Some(Held::Host { here, there }) => self.place_by(*here, *there),
-            _ => None,
-        }
+        self.broken = broken;
     }
 
-    fn place_by(&self, here: Option<(Name, Vlan)>, there: Option<RowId>) -> Option<Place>
-        ensures { result ≡ place_by self.now.entries here there }
+    /// Follows a commit that led from some sound rows, of which this is the state, to these rows by this change. After an `Err`
+    /// the state is broken.
+    pub fn apply(
+        &mut self,
+        alloc: Global,
+        rows: &Rows,
+        _change: &Change,
+        steps: &mut Steps<L>,
+    ) -> Result<(), OutOfMemory>
+        requires going { self.old.broken ≡ false }
+        requires own { IsSome (own_address rows.now) }
+        ensures state { (before : AllRows) → Sound before → _change.now ≡ changes before rows.now
+            → self.old.entries ≡ shown before
+            → OnOk result (self.new ≡ record { entries = shown rows.now; broken = false }) }
+        ensures broken { OnErr result (self.new.broken ≡ true) }
     {
-        match here {
-            Some((port, vlan)) => Some(Place::Here { port, vlan }),
-            None => Some(Place::There(self.address(there?)?)),
-        }
-    }
-
-    /// Where an address of a bound switch is. Takes no memory.
-    pub fn find(&self, switch: RowId, mac: Mac) -> Option<Place>
-        requires going { self.now.broken ≡ false }
-        ensures place { result ≡ found_at self.now.entries switch mac }
-    {
-        let place = self.place(switch, mac)?;
-        if place.is_here() || self.is_bound(switch) {
-            Some(place)
-        } else {
-            None
-        }
+        self.set_broken(true);
+        self.clear(steps);
+        self.fill(alloc, rows, steps)?;
+        self.set_broken(false);
+        Ok(())
     }
 }

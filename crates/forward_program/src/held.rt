@@ -52,9 +52,15 @@ pub struct Lists {
 #[derive(Drop)]
 pub enum Held {
     /// At a VLAN of a port: its binding.
-    Bound { switch: RowId, lists: Lists },
+    Bound {
+        switch: RowId,
+        lists: Lists,
+    },
     /// At a switch: its `tunnel_key` and `replication_mode`.
-    Switch { vni: Option<Vni>, mode: Mode },
+    Switch {
+        vni: Option<Vni>,
+        mode: Mode,
+    },
     /// At a member of a switch.
     Lists(Lists),
     /// At a group of a switch: its locator set.

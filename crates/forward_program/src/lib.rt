@@ -4,6 +4,7 @@
 mod facts;
 mod fib;
 mod held;
+mod looks;
 mod readings;
 mod spots;
 

@@ -211,11 +211,7 @@ pub(crate) fn read_group(row: &Row) -> Option<Group>
     let switch = id(row, Column::McastRemoteLogicalSwitch)?;
     let group = group_address(text(row, Column::McastRemoteMac)?)?;
     let set = id(row, Column::McastRemoteLocatorSet)?;
-    Some(Group {
-        switch,
-        group,
-        set,
-    })
+    Some(Group { switch, group, set })
 }
 
 /// The address of a locator, where it is not the gateway's own.
