@@ -1,2 +1,3 @@
+pub mod Distinct
 pub mod LeastDecides
 pub mod Placed

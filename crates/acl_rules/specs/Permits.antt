@@ -1,6 +1,6 @@
 -- What a list of entries permits: what the least of those that match says, and what none matches.
-use Rattle.std.specs.Prelude.{◌≡◌, ◌⊎◌, Bool, true, false, ◌&&◌, ◌||◌, nat_lt, ◌==◌, if◌then◌else◌, List, [], ◌∷◌, fold, find, Option, Some, None, Contains}
-use Rattle.std.specs.List.{list_all}
+use Rattle.std.specs.Prelude.{◌≡◌, ◌⊎◌, Bool, true, false, not, ◌&&◌, ◌||◌, nat_lt, ◌==◌, if◌then◌else◌, List, [], ◌∷◌, fold, find, Option, Some, None, Contains}
+use Rattle.std.specs.List.{list_all, list_any}
 use Rattle.vtep_base.specs.declared.shapes.Action.{Action}
 use Rattle.vtep_base.specs.declared.shapes.Action.TheVariants.{Permit, Deny}
 use Rattle.vtep_base.specs.declared.shapes.Direction.{Direction}
@@ -55,3 +55,8 @@ placed e (x ∷ xs) = if before e x then e ∷ x ∷ xs else x ∷ placed e xs
 
 abbrev pub in_order : List Entry → List Entry
 in_order entries = fold (λ sorted e. placed e sorted) [] entries
+
+-- no two entries have one identifier
+abbrev pub repeat_no_id : List Entry → Bool
+repeat_no_id [] = true
+repeat_no_id (e ∷ es) = not (list_any (λ x. e.id == x.id) es) && repeat_no_id es

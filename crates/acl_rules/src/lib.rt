@@ -6,4 +6,4 @@ mod matching;
 mod rules;
 
 pub use entry::Entry;
-pub use rules::{FewRules, Rules, least_entry_decides};
+pub use rules::{FewRules, Rules, ids_are_distinct, least_entry_decides};

@@ -1,18 +1,18 @@
 //! Lists of entries in order.
 
-ghost use Rattle.std.specs.Prelude.{◌≡◌, ◌≤◌, ◌↔◌, ℕ, List, map, length, insert, nat_eq, true, find, position, option_copied, IsTrue, IfOk, IsPermutation};
-ghost use Rattle.std.specs.List.{IsDistinct};
+ghost use Rattle.std.specs.Prelude.{◌≡◌, ◌==◌, ◌≤◌, ◌↔◌, ℕ, List, map, length, insert, nat_eq, true, find, position, option_copied, IsTrue, IfOk, IsPermutation};
+ghost use Rattle.std.specs.List.{IsDistinct, list_any};
 ghost use Rattle.vtep_base.specs.declared.shapes.Direction.{Direction};
 ghost use Rattle.ether_frames.specs.declared.fields.Headers.{Headers};
 ghost use Rattle.acl_rules.specs.declared.entry.Entry.{Entry};
 ghost use Rattle.acl_rules.specs.Matching.{matches};
-ghost use Rattle.acl_rules.specs.Permits.{before, placed, in_order, permits, is_permit, Permits, IsOrdered};
+ghost use Rattle.acl_rules.specs.Permits.{before, placed, in_order, permits, is_permit, Permits, IsOrdered, repeat_no_id};
 
 use crate::entry::Entry;
 use ether_frames::Headers;
 use std::alloc::Global;
 use std::marker::Model;
-use vtep_base::{Action, Direction, OutOfMemory};
+use vtep_base::{Action, Direction, OutOfMemory, RowId};
 
 /// Entries in the order of sequence and then of identifier. Contracts see the list.
 #[derive(Debug, Drop)]
@@ -86,8 +86,33 @@ fn first_says(entries: &[Entry], headers: &Headers, direction: Direction) -> boo
     }
 }
 
+fn has_id(entries: &[Entry], id: RowId) -> bool
+    ensures { result ≡ list_any (λ e. id == e.id) entries.now }
+{
+    entries.iter().any(|entry| entry.id == id)
+}
+
+/// Whether no two entries have one identifier, as rules ask. It compares each with each.
+pub fn ids_are_distinct(entries: &[Entry]) -> bool
+    ensures { IsTrue result ↔ IsDistinct nat_eq (map (λ e. e.id) entries.now) }
+{
+    repeat_no_id(entries)
+}
+
+fn repeat_no_id(entries: &[Entry]) -> bool
+    ensures { result ≡ repeat_no_id entries.now }
+{
+    'entries: for (place, entry) in entries.iter().enumerate() {
+        let (_, behind) = entries.split_at(place + 1);
+        if has_id(behind, entry.id) {
+            return false;
+        }
+    }
+    true
+}
+
 impl Rules {
-    /// These entries in order.
+    /// These entries in order. `ids_are_distinct` tests what it asks.
     pub fn of(alloc: Global, entries: &[Entry]) -> Result<Rules, OutOfMemory>
         requires distinct { IsDistinct nat_eq (map (λ e. e.id) entries.now) }
         ensures entries { IfOk result (λ rules. rules ≡ in_order entries.now) }
