@@ -1,7 +1,7 @@
 -- Names that stand for inserted rows, and the rows that meet conditions.
-use Rattle.std.specs.Prelude.{◌≡◌, ℕ, ◌+◌, ℤ, pos, int_lt, int_le, Bool, true, false, not, if◌then◌else◌, List, [], ◌∷◌, ◌++◌, map, filter, Option, Some, None}
+use Rattle.std.specs.Prelude.{◌≡◌, ℕ, ℤ, pos, int_lt, int_le, Bool, true, false, not, if◌then◌else◌, List, [], ◌∷◌, map, filter, Option, Some, None}
 use Rattle.std.specs.List.{list_all}
-use Rattle.vtep_base.specs.Reading.{Bytes, same_bytes}
+use Rattle.vtep_base.specs.Reading.{Bytes}
 use Rattle.ovsdb_values.specs.declared.atoms.Atom.{Atom}
 use Rattle.ovsdb_values.specs.declared.atoms.Atom.TheVariants.{Integer, Id, Named}
 use Rattle.ovsdb_values.specs.declared.datums.Datum.{Datum}
@@ -11,7 +11,9 @@ use Rattle.vtep_schema.specs.declared.Table.{Table}
 use Rattle.vtep_schema.specs.declared.Column.{Column}
 use Rattle.vtep_schema.specs.Tables.{belongs}
 use Rattle.vtep_rows.specs.Row.{Contents, value_at}
-use Rattle.vtep_rows.specs.Rows.{Rows, row_id, row_at, ids_of}
+use Rattle.vtep_rows.specs.Rows.{Rows, row_at, ids_of}
+pub use Rattle.transact_profile.specs.Names.{Names}
+use Rattle.transact_profile.specs.Names.{id_named}
 use Rattle.transact_profile.specs.declared.operations.Field.{Field}
 use Rattle.transact_profile.specs.declared.operations.Field.TheVariants as field
 use Rattle.transact_profile.specs.declared.operations.Function.{Function}
@@ -20,20 +22,6 @@ use Rattle.transact_profile.specs.declared.operations.Condition.{Condition}
 use Rattle.transact_profile.specs.declared.operations.Mutation.{Mutation}
 
 -- ---- names
-
--- a name, and the identifier of the row that has it
-abbrev pub Names : Type 0
-Names = List (Bytes × ℕ)
-
--- the insertions take the numbers from this one on
-abbrev pub names_from : ℕ → ℕ → Names → List (Option Bytes) → Names
-names_from made number done [] = done
-names_from made number done (None ∷ names) = names_from made (number + 1) done names
-names_from made number done (Some name ∷ names) = names_from made (number + 1) (done ++ (name, row_id made number) ∷ []) names
-
-abbrev pub id_named : Names → Bytes → Option ℕ
-id_named [] name = None
-id_named (n ∷ ns) name = if same_bytes n.0 name then Some n.1 else id_named ns name
 
 abbrev pub atom_for : Bytes → Option ℕ → Atom
 atom_for name None = Named name

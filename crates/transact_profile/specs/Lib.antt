@@ -1,5 +1,6 @@
 pub mod Refusing
 pub mod Members
+pub mod Names
 pub mod Values
 pub mod Operations
 pub mod Transaction

@@ -1,6 +1,7 @@
 -- What operations do (RFC 7047, section 5.2): a result, and the rows after them.
 use Rattle.std.specs.Prelude.{ℕ, ◌+◌, ◌-◌, ◌==◌, Bool, true, false, not, ◌&&◌, List, [], ◌∷◌, ◌++◌, map, length, replicate, Option, Some, None, Ok, Err}
 use Rattle.std.specs.List.{list_all, list_any}
+use Rattle.vtep_base.specs.Maps as maps
 use Rattle.vtep_base.specs.declared.words.Word.{Word}
 use Rattle.vtep_base.specs.declared.words.Word.TheVariants as word
 use Rattle.serde_json.specs.Data.{Data, object, Members, no_members, put}
@@ -28,7 +29,8 @@ use Rattle.transact_profile.specs.declared.operations.Ops.{Ops}
 use Rattle.transact_profile.specs.Refusing.{Reading, ◌>>?◌, given, needs, by_reading}
 use Rattle.transact_profile.specs.Values.{field_name}
 use Rattle.transact_profile.specs.Operations.{waited_fields}
-use Rattle.transact_profile.specs.Conditions.{Names, names_from, resolved_cells, resolved_conditions, resolved_mutations, resolved_rows, cell_of, selected}
+use Rattle.transact_profile.specs.Names.{Names, names_from}
+use Rattle.transact_profile.specs.Conditions.{resolved_cells, resolved_conditions, resolved_mutations, resolved_rows, cell_of, selected}
 use Rattle.transact_profile.specs.Mutations.{mutated, updated}
 
 -- the result of an operation
@@ -216,7 +218,7 @@ outcome before count results after (Some w) =
     record { results = failed_results count w results; failed = true; rows = before }
 
 abbrev pub names_of : Ops → AllRows → Names
-names_of ops r = names_from r.made (r.counter + 1) [] ops.names
+names_of ops r = names_from r.made (r.counter + 1) maps.empty ops.names
 
 abbrev pub means : Ops → AllRows → Outcome
 means ops r =

@@ -3,15 +3,18 @@
 use Rattle.std.specs.Prelude.{Bool, true, false, not, ◌&&◌, ◌||◌, if◌then◌else◌, List, map, Option, Some, None, is_some, option_map, unwrap_or, codes, Ok, Err}
 use Rattle.std.specs.List.{list_all, list_any}
 use Rattle.vtep_base.specs.Reading.{Bytes, same_bytes}
+use Rattle.vtep_base.specs.Maps as maps
 use Rattle.vtep_base.specs.declared.words.Word.TheVariants as word
 use Rattle.serde_json.specs.Data.{Data}
 use Rattle.serde_json.specs.Find.{get, as_str, as_bool}
+use Rattle.ovsdb_values.specs.declared.atoms.Atom.TheVariants.{Named}
 use Rattle.ovsdb_values.specs.declared.datums.Datum.{Datum}
 use Rattle.vtep_schema.specs.declared.Table.{Table}
 use Rattle.vtep_schema.specs.declared.Column.{Column}
 use Rattle.vtep_schema.specs.declared.rules.Given.{Given}
 use Rattle.vtep_schema.specs.declared.rules.Given.TheVariants.{Optional, Fixed}
 use Rattle.vtep_schema.specs.Tables.{columns_of, column_rule, table_rule, table_named, column_named, written_by_sessions, same_column}
+use Rattle.transact_profile.specs.Names.{NameSet}
 use Rattle.transact_profile.specs.declared.known.Known.{Known}
 use Rattle.transact_profile.specs.declared.operations.Field.{Field}
 use Rattle.transact_profile.specs.declared.operations.Field.TheVariants as field
@@ -22,7 +25,7 @@ use Rattle.transact_profile.specs.declared.operations.Op.{Op}
 use Rattle.transact_profile.specs.declared.operations.Op.TheVariants as op
 use Rattle.transact_profile.specs.Refusing.{Reading, ◌>>?◌, given, needs, each}
 use Rattle.transact_profile.specs.Members.{member, optional, items_that, is_text, is_object, is_triple, Triple, triple_of, members_in, until_of, number_of}
-use Rattle.transact_profile.specs.Values.{has_name, column_value, field_value, field_named, has_field, field_name, function_named, takes_function, mutator_named, takes_mutator, mutation_value}
+use Rattle.transact_profile.specs.Values.{column_value, field_value, field_named, has_field, field_name, function_named, takes_function, mutator_named, takes_mutator, mutation_value}
 
 abbrev pub Row : Type 0
 Row = List (Bytes × Data)
@@ -141,11 +144,11 @@ none_mutated ms = list_all (λ m. not (is_fixed (column_rule m.column).given)) m
 
 -- the names of the insertions before this operation
 abbrev pub Earlier : Type 0
-Earlier = List (Option Bytes)
+Earlier = NameSet
 
 abbrev pub is_new : Earlier → Option Bytes → Bool
 is_new earlier None = true
-is_new earlier (Some name) = not (has_name earlier name)
+is_new earlier (Some name) = not (maps.has earlier (Named name))
 
 abbrev pub whole_insert : Table → Option Bytes → List (Column × Datum) → Reading Op
 whole_insert t name row = needs word.ConstraintViolation (is_whole_row t row) (Ok (op.Insert t row name))

@@ -1,10 +1,11 @@
 -- Values as they stand in operations, and the columns, functions and mutators that take them.
 -- Of each value its notation is looked at first, then the names in it, then its range and size.
 use Rattle.std.specs.Prelude.{Bool, true, false, not, ◌&&◌, ◌||◌, nat_le, ◌==◌, if◌then◌else◌, List, [], map, length, Option, Some, None, is_some, is_none, option_map, codes, Ok}
-use Rattle.std.specs.List.{list_all, list_any}
+use Rattle.std.specs.List.{list_all}
 use Rattle.std.specs.Char.{to_ascii_lowercase}
 use Rattle.vtep_base.specs.Reading.{Bytes, same_bytes}
 use Rattle.vtep_base.specs.Addresses.{mac_of}
+use Rattle.vtep_base.specs.Maps as maps
 use Rattle.vtep_base.specs.declared.words.Word.TheVariants as word
 use Rattle.vtep_base.specs.declared.shapes.Kind.TheVariants as kind
 use Rattle.serde_json.specs.Data.{Data}
@@ -24,6 +25,7 @@ use Rattle.vtep_schema.specs.declared.rules.ColumnRule.{ColumnRule}
 use Rattle.vtep_schema.specs.Tables.{kind_of, column_rule, column_name, column_named, same_column}
 use Rattle.vtep_rows.specs.Row.{atom_allowed, is_reference, size_allowed}
 use Rattle.transact_profile.specs.declared.known.Known.{Known}
+use Rattle.transact_profile.specs.declared.known.Known.TheVariants.{AnyName, OneOf}
 use Rattle.transact_profile.specs.declared.operations.Field.{Field}
 use Rattle.transact_profile.specs.declared.operations.Field.TheVariants as field
 use Rattle.transact_profile.specs.declared.operations.Function.{Function}
@@ -34,20 +36,13 @@ use Rattle.transact_profile.specs.Refusing.{Reading, ◌>>?◌, given, needs}
 
 -- ---- names of insertions
 
-abbrev pub is_named : Bytes → Option Bytes → Bool
-is_named name None = false
-is_named name (Some other) = same_bytes other name
-
--- some insertion has the name
-abbrev pub has_name : List (Option Bytes) → Bytes → Bool
-has_name names name = list_any (is_named name) names
-
-abbrev pub is_known : Known → Bytes → Bool
-is_known known name = known.every || has_name known.names name
+abbrev pub is_known : Known → Atom → Bool
+is_known AnyName name = true
+is_known (OneOf names) name = maps.has names name
 
 -- it is no name, or a known one
 abbrev pub resolves : Known → Atom → Bool
-resolves known (Named name) = is_known known name
+resolves known (Named name) = is_known known (Named name)
 resolves known _ = true
 
 -- ---- sets and maps
@@ -67,9 +62,9 @@ abbrev pub lower_mac : Bytes → Bytes
 lower_mac t = if is_some (mac_of t) then map to_ascii_lowercase t else t
 
 -- the text of a MAC address is taken in lower case
-abbrev pub taken : Domain → Atom → Atom
-taken d (Text t) = if holds_mac d then Text (lower_mac t) else Text t
-taken d a = a
+abbrev pub lower_cased : Domain → Atom → Atom
+lower_cased d (Text t) = if holds_mac d then Text (lower_mac t) else Text t
+lower_cased d a = a
 
 abbrev pub set_fits : ColumnRule → List Atom → Bool
 set_fits r xs = size_allowed r (length xs) && list_all (fits r.key) xs
@@ -81,7 +76,7 @@ map_fits r value ps = size_allowed r (length ps) && list_all (λ p. fits r.key p
 abbrev pub set_of_atoms : Known → ColumnRule → List Atom → Reading (List Atom)
 set_of_atoms known r xs =
     needs word.UnknownUuidName (list_all (resolves known) xs)
-    (given word.ConstraintViolation (set_from [] (map (taken r.key) xs)) >>? λ set.
+    (given word.ConstraintViolation (set_from [] (map (lower_cased r.key) xs)) >>? λ set.
     needs word.ConstraintViolation (set_fits r set) (Ok set))
 
 abbrev pub set_value : Known → ColumnRule → Data → Reading (List Atom)

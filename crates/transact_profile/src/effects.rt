@@ -13,6 +13,7 @@ ghost use Rattle.transact_profile.specs.Meaning.{insert, select, changed_at, cha
 use crate::faults::Fault;
 use crate::found::selected_rows;
 use crate::mutating::{mutated, updated};
+use crate::names::NamedRows;
 use crate::operations::{Condition, Field, Mutation, Op};
 use crate::outcomes::OpResult;
 use crate::parts::all_fields;
@@ -21,7 +22,7 @@ use crate::selecting::selected;
 use crate::waiting::{same_rows, waits_for};
 use ovsdb_values::Datum;
 use std::alloc::Global;
-use vtep_base::{List, OutOfMemory, RowId, Txt, Word};
+use vtep_base::{List, OutOfMemory, RowId, Word};
 use vtep_rows::{Database, Row, RowFault, Rows, RowsFault};
 use vtep_schema::{Column, Table};
 
@@ -236,7 +237,7 @@ fn is_same(
 
 fn update_named(
     alloc: Global,
-    names: &[(Txt, RowId)],
+    names: &NamedRows,
     database: &mut Database,
     table: Table,
     conditions: &List<Condition>,
@@ -260,7 +261,7 @@ fn update_named(
 
 fn mutate_named(
     alloc: Global,
-    names: &[(Txt, RowId)],
+    names: &NamedRows,
     database: &mut Database,
     table: Table,
     conditions: &List<Condition>,
@@ -284,7 +285,7 @@ fn mutate_named(
 
 fn insert_named(
     alloc: Global,
-    names: &[(Txt, RowId)],
+    names: &NamedRows,
     database: &mut Database,
     table: Table,
     row: &[(Column, Datum)],
@@ -299,7 +300,7 @@ fn insert_named(
 
 fn select_named(
     alloc: Global,
-    names: &[(Txt, RowId)],
+    names: &NamedRows,
     rows: &Rows,
     table: Table,
     conditions: &List<Condition>,
@@ -314,7 +315,7 @@ fn select_named(
 
 fn delete_named(
     alloc: Global,
-    names: &[(Txt, RowId)],
+    names: &NamedRows,
     database: &mut Database,
     table: Table,
     conditions: &List<Condition>,
@@ -330,7 +331,7 @@ fn delete_named(
 /// Whether the rows that are waited for are those that are there.
 fn is_same_named(
     alloc: Global,
-    names: &[(Txt, RowId)],
+    names: &NamedRows,
     rows: &Rows,
     table: Table,
     conditions: &List<Condition>,
@@ -359,7 +360,7 @@ fn is_same_named(
 #[tactic(auto, unfolding(crate::specs::Meaning::wait))]
 pub(crate) fn run_op(
     alloc: Global,
-    names: &[(Txt, RowId)],
+    names: &NamedRows,
     database: &mut Database,
     op: &Op,
 ) -> Result<OpResult, Fault>

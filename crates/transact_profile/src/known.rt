@@ -1,39 +1,27 @@
-//! Names of insertions.
+//! The names that values may use.
 
 ghost use Rattle.std.specs.Prelude.{◌≡◌};
-ghost use Rattle.transact_profile.specs.Values.{is_named, has_name, is_known};
+ghost use Rattle.transact_profile.specs.Values.{is_known};
 
-use vtep_base::{List, Txt};
+use crate::names::NameSet;
+use ovsdb_values::Atom;
 
 /// The names that values may use.
 #[derive(Drop)]
-pub struct Known {
-    /// Each name is one of them: the known insertions are still looked for.
-    pub every: bool,
-    /// The names of the known insertions, in their order.
-    pub names: List<Option<Txt>>,
-}
-
-fn is_named(name: &str, other: &Option<Txt>) -> bool
-    ensures { result ≡ is_named name.now other.now }
-{
-    match other {
-        Some(other) => other.as_str() == name,
-        None => false,
-    }
-}
-
-/// Some insertion has the name.
-pub(crate) fn has_name(names: &[Option<Txt>], name: &str) -> bool
-    ensures { result ≡ has_name names.now name.now }
-{
-    names.iter().any(|other| is_named(name, other))
+pub enum Known {
+    /// Each: the known insertions are still looked for.
+    AnyName,
+    /// Those of the known insertions.
+    OneOf(NameSet),
 }
 
 impl Known {
-    pub(crate) fn has(&self, name: &str) -> bool
+    pub(crate) fn has(&self, name: &Atom) -> bool
         ensures { result ≡ is_known self.now name.now }
     {
-        self.every || has_name(self.names.as_slice(), name)
+        match self {
+            Known::AnyName => true,
+            Known::OneOf(names) => names.has(name),
+        }
     }
 }

@@ -9,6 +9,7 @@ mod found;
 mod known;
 mod members;
 mod mutating;
+mod names;
 mod operations;
 mod outcomes;
 mod parts;

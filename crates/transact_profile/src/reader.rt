@@ -11,14 +11,15 @@ use crate::columns::{
     triples_known, triples_permitted,
 };
 use crate::faults::Fault;
-use crate::known::{Known, has_name};
+use crate::known::Known;
 use crate::members::{
     boolean_member, object_member, objects_member, optional_number, optional_text, optional_texts,
     text_member, triples_member, until_member,
 };
+use crate::names::NameSet;
 use crate::operations::{Condition, Mutation, Op, Until};
 use crate::parts::{cells, chosen, conditions, mutations, table_read, waited_rows};
-use ovsdb_values::Datum;
+use ovsdb_values::{Atom, Datum};
 use serde_json::{Map, Value};
 use std::alloc::Global;
 use vtep_base::{List, OutOfMemory, Txt, Word};
@@ -30,12 +31,16 @@ const NOT_PERMITTED: Fault = Fault::Refused(Word::PermissionError);
 
 const OUT_OF_BOUNDS: Fault = Fault::Refused(Word::ConstraintViolation);
 
-fn is_new(earlier: &[Option<Txt>], name: Option<&str>) -> bool
-    ensures { result ≡ is_new earlier.now (option_map (λ s. s.now) name.entry) }
+fn is_new(alloc: Global, earlier: &NameSet, name: Option<&str>) -> Result<bool, OutOfMemory>
+    ensures { IfOk result (λ new. new
+        ≡ is_new earlier.now (option_map (λ s. s.now) name.entry)) }
 {
     match name {
-        Some(name) => !has_name(earlier, name),
-        None => true,
+        Some(name) => {
+            let name = Atom::Named(Txt::from_str(alloc, name)?);
+            Ok(!earlier.has(&name))
+        }
+        None => Ok(true),
     }
 }
 
@@ -60,7 +65,7 @@ fn whole_insert(table: Table, name: Option<Txt>, row: List<(Column, Datum)>) -> 
 fn insert_into(
     alloc: Global,
     known: &Known,
-    earlier: &[Option<Txt>],
+    earlier: &NameSet,
     table: Table,
     row: &Map<String, Value>,
     name: Option<&str>,
@@ -74,7 +79,7 @@ fn insert_into(
     if !(table_rule(table).open_to_sessions && row_permitted(table, row)) {
         return Err(NOT_PERMITTED);
     }
-    if !is_new(earlier, name) {
+    if !is_new(alloc, earlier, name)? {
         return Err(Fault::Refused(Word::DuplicateUuidName));
     }
     let row = cells(alloc, known, table, row)?;
@@ -84,7 +89,7 @@ fn insert_into(
 fn insert_read(
     alloc: Global,
     known: &Known,
-    earlier: &[Option<Txt>],
+    earlier: &NameSet,
     operation: &Value,
 ) -> Result<Op, Fault>
     ensures { Reads result (insert_read known.now earlier.now (view operation.now)) }
@@ -306,7 +311,7 @@ fn comment_read(operation: &Value) -> Result<Op, Fault>
 fn named_op(
     alloc: Global,
     known: &Known,
-    earlier: &[Option<Txt>],
+    earlier: &NameSet,
     name: &str,
     operation: &Value,
 ) -> Result<Op, Fault>
@@ -331,7 +336,7 @@ fn named_op(
 pub(crate) fn op_read(
     alloc: Global,
     known: &Known,
-    earlier: &[Option<Txt>],
+    earlier: &NameSet,
     operation: &Value,
 ) -> Result<Op, Fault>
     ensures { Reads result (op_read known.now earlier.now (view operation.now)) }

@@ -1,31 +1,20 @@
 //! Names in values, and the rows that they stand for.
 
-ghost use Rattle.std.specs.Prelude.{◌≡◌, ◌+◌, map, IfOk};
-ghost use Rattle.vtep_rows.specs.Rows.{Rows as AllRows};
-ghost use Rattle.transact_profile.specs.Conditions.{names_from, id_named, atom_for, resolved_atom, resolved_pair, resolved, resolved_cells, resolved_condition, resolved_conditions, resolved_mutation, resolved_mutations, resolved_rows};
+ghost use Rattle.std.specs.Prelude.{◌≡◌, map, IfOk};
+ghost use Rattle.transact_profile.specs.Conditions.{atom_for, resolved_atom, resolved_pair, resolved, resolved_cells, resolved_condition, resolved_conditions, resolved_mutation, resolved_mutations, resolved_rows};
 
+use crate::names::NamedRows;
 use crate::operations::{Condition, Field, Mutation};
 use ovsdb_values::{Atom, AtomMap, AtomSet, Datum};
 use std::alloc::Global;
-use vtep_base::{List, OutOfMemory, RowId, Txt};
+use vtep_base::{List, OutOfMemory};
 use vtep_schema::Column;
 
-fn id_named(names: &[(Txt, RowId)], name: &str) -> Option<RowId>
-    ensures { result ≡ id_named names.now name.now }
-{
-    'names: for named in names {
-        if named.0.as_str() == name {
-            return Some(named.1);
-        }
-    }
-    None
-}
-
-fn resolved_atom(alloc: Global, names: &[(Txt, RowId)], atom: &Atom) -> Result<Atom, OutOfMemory>
+fn resolved_atom(alloc: Global, names: &NamedRows, atom: &Atom) -> Result<Atom, OutOfMemory>
     ensures { IfOk result (λ a. a ≡ resolved_atom names.now atom.now) }
 {
     match atom {
-        Atom::Named(name) => match id_named(names, name.as_str()) {
+        Atom::Named(_) => match names.find(atom) {
             Some(id) => Ok(Atom::Id(id)),
             None => atom.copy(alloc),
         },
@@ -35,7 +24,7 @@ fn resolved_atom(alloc: Global, names: &[(Txt, RowId)], atom: &Atom) -> Result<A
 
 fn resolved_atoms(
     alloc: Global,
-    names: &[(Txt, RowId)],
+    names: &NamedRows,
     atoms: &[Atom],
 ) -> Result<List<Atom>, OutOfMemory>
     ensures { IfOk result (λ all. all ≡ map (resolved_atom names.now) atoms.now) }
@@ -49,7 +38,7 @@ fn resolved_atoms(
 
 fn resolved_pairs(
     alloc: Global,
-    names: &[(Txt, RowId)],
+    names: &NamedRows,
     pairs: &[(Atom, Atom)],
 ) -> Result<List<(Atom, Atom)>, OutOfMemory>
     ensures { IfOk result (λ all. all ≡ map (resolved_pair names.now) pairs.now) }
@@ -64,7 +53,7 @@ fn resolved_pairs(
 }
 
 /// The datum with rows in the place of their names.
-fn resolved(alloc: Global, names: &[(Txt, RowId)], datum: &Datum) -> Result<Datum, OutOfMemory>
+fn resolved(alloc: Global, names: &NamedRows, datum: &Datum) -> Result<Datum, OutOfMemory>
     ensures { IfOk result (λ d. d ≡ resolved names.now datum.now) }
 {
     match datum {
@@ -81,7 +70,7 @@ fn resolved(alloc: Global, names: &[(Txt, RowId)], datum: &Datum) -> Result<Datu
 
 pub(crate) fn resolved_row(
     alloc: Global,
-    names: &[(Txt, RowId)],
+    names: &NamedRows,
     row: &[(Column, Datum)],
 ) -> Result<List<(Column, Datum)>, OutOfMemory>
     ensures { IfOk result (λ all. all ≡ resolved_cells names.now row.now) }
@@ -95,7 +84,7 @@ pub(crate) fn resolved_row(
 
 fn resolved_given(
     alloc: Global,
-    names: &[(Txt, RowId)],
+    names: &NamedRows,
     cells: &[(Field, Datum)],
 ) -> Result<List<(Field, Datum)>, OutOfMemory>
     ensures { IfOk result (λ all. all ≡ resolved_cells names.now cells.now) }
@@ -109,7 +98,7 @@ fn resolved_given(
 
 pub(crate) fn resolved_rows(
     alloc: Global,
-    names: &[(Txt, RowId)],
+    names: &NamedRows,
     rows: &[List<(Field, Datum)>],
 ) -> Result<List<List<(Field, Datum)>>, OutOfMemory>
     ensures { IfOk result (λ all. all ≡ resolved_rows names.now rows.now) }
@@ -123,7 +112,7 @@ pub(crate) fn resolved_rows(
 
 pub(crate) fn resolved_conditions(
     alloc: Global,
-    names: &[(Txt, RowId)],
+    names: &NamedRows,
     conditions: &[Condition],
 ) -> Result<List<Condition>, OutOfMemory>
     ensures { IfOk result (λ all. all ≡ resolved_conditions names.now conditions.now) }
@@ -141,7 +130,7 @@ pub(crate) fn resolved_conditions(
 
 pub(crate) fn resolved_mutations(
     alloc: Global,
-    names: &[(Txt, RowId)],
+    names: &NamedRows,
     mutations: &[Mutation],
 ) -> Result<List<Mutation>, OutOfMemory>
     ensures { IfOk result (λ all. all ≡ resolved_mutations names.now mutations.now) }

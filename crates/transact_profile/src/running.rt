@@ -2,33 +2,29 @@
 
 ghost use Rattle.std.specs.Prelude.{◌≡◌, ◌+◌, ◌++◌, [], None, map, replicate, true, IfOk, OnOk, OnErr};
 ghost use Rattle.transact_profile.specs.Refusing.{ReadsAs};
-ghost use Rattle.transact_profile.specs.Conditions.{names_from};
+ghost use Rattle.vtep_base.specs.Maps as maps;
+ghost use Rattle.transact_profile.specs.Names.{names_from};
 ghost use Rattle.transact_profile.specs.Finish.{seen};
 ghost use Rattle.transact_profile.specs.Meaning.{Null, run_op, run_from, fault_word, first_word, failed_results, means};
 
 use crate::effects::run_op;
 use crate::faults::Fault;
+use crate::names::NamedRows;
 use crate::operations::{Op, OpFault, Ops};
 use crate::outcomes::{OpResult, Outcome};
 use std::alloc::Global;
-use vtep_base::{List, OutOfMemory, RowId, Txt, Word};
+use vtep_base::{List, OutOfMemory, Txt, Word};
 use vtep_rows::{Database, Rows};
 
 /// The names of the insertions, and the identifiers that their rows take.
-fn names_of(
-    alloc: Global,
-    rows: &Rows,
-    names: &[Option<Txt>],
-) -> Result<List<(Txt, RowId)>, OutOfMemory>
+fn names_of(alloc: Global, rows: &Rows, names: &[Option<Txt>]) -> Result<NamedRows, OutOfMemory>
     ensures { IfOk result (λ all. all
-        ≡ names_from rows.now.made (rows.now.counter + 1) [] names.now) }
+        ≡ names_from rows.now.made (rows.now.counter + 1) maps.empty names.now) }
 {
-    let mut all = List::new(alloc);
+    let mut all = NamedRows::new(alloc);
     let mut number = rows.counter() + 1;
     'names: for name in names {
-        if let Some(name) = name {
-            all.push((Txt::from_str(alloc, name.as_str())?, rows.id(number)))?;
-        }
+        all.add(alloc, name, rows.id(number))?;
         number += 1;
     }
     Ok(all)
@@ -43,7 +39,7 @@ struct Ran {
 
 fn run_all(
     alloc: Global,
-    names: &[(Txt, RowId)],
+    names: &NamedRows,
     database: &mut Database,
     ops: &[Op],
 ) -> Result<Ran, OutOfMemory>
@@ -128,7 +124,7 @@ pub fn transact_on(
         { current = (means ops.now database.old.current).rows }) }
 {
     let names = names_of(alloc, database.rows(), ops.names.as_slice())?;
-    let ran = run_all(alloc, names.as_slice(), database, ops.ops.as_slice())?;
+    let ran = run_all(alloc, &names, database, ops.ops.as_slice())?;
     let mut results = ran.results;
     match first_word(ran.stopped, ops.fault) {
         None => Ok(Outcome {

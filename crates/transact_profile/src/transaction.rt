@@ -1,79 +1,100 @@
 //! The operations of a transaction.
 
-ghost use Rattle.std.specs.Prelude.{◌≡◌, ◌+◌, ◌^◌, ◌<◌, [], map, length, drop, option_map, unwrap_or, IfOk, IfErr, OnOk};
+ghost use Rattle.std.specs.Prelude.{◌≡◌, [], map, length, drop, IfOk, OnOk};
+ghost use Rattle.vtep_base.specs.Maps as maps;
 ghost use Rattle.serde_json.specs.View.{view};
-ghost use Rattle.transact_profile.specs.Members.{items_in};
-ghost use Rattle.transact_profile.specs.Transaction.{with_name, every_name, known_from, known_names, front_from, with_names, operations, ops_in};
+ghost use Rattle.transact_profile.specs.Transaction.{no_insertion, with_insertion, known_insertions, with_name_of, read_from, read_with, operations, ops_in};
 
 use crate::faults::Fault;
 use crate::known::Known;
 use crate::members::items;
+use crate::names::NameSet;
 use crate::operations::{Op, OpFault, Ops};
 use crate::reader::op_read;
 use serde_json::Value;
 use std::alloc::Global;
 use vtep_base::{List, OutOfMemory, Txt};
 
-fn copied(alloc: Global, name: &Option<Txt>) -> Result<Option<Txt>, OutOfMemory>
-    ensures { IfOk result (λ copy. copy ≡ name.now) }
-{
-    match name {
-        Some(name) => Ok(Some(Txt::from_str(alloc, name.as_str())?)),
-        None => Ok(None),
-    }
+/// Insertions that were read.
+#[derive(Drop)]
+pub struct Insertions {
+    /// The name of each, in their order.
+    pub names: List<Option<Txt>>,
+    /// The names that are taken.
+    pub taken: NameSet,
 }
 
-/// Adds the name of an insertion.
-fn add_name(
-    alloc: Global,
-    earlier: &mut List<Option<Txt>>,
-    operation: &Op,
-) -> Result<(), OutOfMemory>
-    ensures { OnOk result (earlier.new ≡ with_name earlier.old operation.now) }
-{
-    match operation {
-        Op::Insert { name, .. } => earlier.push(copied(alloc, name)?),
-        _ => Ok(()),
-    }
-}
-
-/// The names of the insertions before the first operation that can't be read where each name is known.
-fn known_names(alloc: Global, operations: &[Value]) -> Result<List<Option<Txt>>, OutOfMemory>
-    ensures { IfOk result (λ names. names ≡ known_names (map view operations.now)) }
-{
-    let every = Known {
-        every: true,
-        names: List::new(alloc),
-    };
-    let mut earlier = List::new(alloc);
-    'operations: for operation in operations {
-        match op_read(alloc, &every, earlier.as_slice(), operation) {
-            Ok(operation) => add_name(alloc, &mut earlier, &operation)?,
-            Err(Fault::OutOfMemory) => return Err(OutOfMemory),
-            Err(Fault::Refused(_)) => return Ok(earlier),
+impl Insertions {
+    fn new(alloc: Global) -> Insertions
+        ensures { result ≡ no_insertion }
+    {
+        Insertions {
+            names: List::new(alloc),
+            taken: NameSet::new(alloc),
         }
     }
-    Ok(earlier)
+
+    /// Adds an operation, where it is an insertion.
+    fn add(&mut self, alloc: Global, operation: Op) -> Result<(), OutOfMemory>
+        ensures { OnOk result (self.new ≡ with_insertion self.old operation) }
+    {
+        match operation {
+            Op::Insert {
+                table: _table,
+                row: _row,
+                name,
+            } => {
+                self.taken.add(alloc, &name)?;
+                self.names.push(name)
+            }
+            _other => Ok(()),
+        }
+    }
+}
+
+/// The insertions before the first operation that can't be read where each name is known.
+fn known_insertions(alloc: Global, operations: &[Value]) -> Result<Insertions, OutOfMemory>
+    ensures { IfOk result (λ known. known ≡ known_insertions (map view operations.now)) }
+{
+    let mut known = Insertions::new(alloc);
+    'operations: for operation in operations {
+        match op_read(alloc, &Known::AnyName, &known.taken, operation) {
+            Ok(operation) => known.add(alloc, operation)?,
+            Err(Fault::OutOfMemory) => return Err(OutOfMemory),
+            Err(Fault::Refused(_)) => return Ok(known),
+        }
+    }
+    Ok(known)
 }
 
 /// The operations before the first fault, and that fault.
 #[derive(Drop)]
-struct Reached {
+struct ReadSoFar {
     ops: List<Op>,
     fault: Option<OpFault>,
 }
 
-fn front(alloc: Global, known: &Known, operations: &[Value]) -> Result<Reached, OutOfMemory>
-    ensures ops { IfOk result (λ front. front.ops
-        ≡ (front_from known.now [] [] 0 (map view operations.now)).ops) }
-    ensures fault { IfOk result (λ front. front.fault
-        ≡ (front_from known.now [] [] 0 (map view operations.now)).fault) }
+/// Adds the name of an insertion.
+fn add_name(alloc: Global, earlier: &mut NameSet, operation: &Op) -> Result<(), OutOfMemory>
+    ensures { OnOk result (earlier.new ≡ with_name_of earlier.old operation.now) }
+{
+    match operation {
+        Op::Insert { name, .. } => earlier.add(alloc, name),
+        _ => Ok(()),
+    }
+}
+
+fn read_so_far(alloc: Global, known: &Known, operations: &[Value]) -> Result<ReadSoFar, OutOfMemory>
+    ensures ops { IfOk result (λ read. read.ops
+        ≡ (read_from known.now maps.empty [] 0 (map view operations.now)).ops) }
+    ensures fault { IfOk result (λ read. read.fault
+        ≡ (read_from known.now maps.empty [] 0 (map view operations.now)).fault) }
 {
     let mut ops = List::new(alloc);
-    let mut earlier = List::new(alloc);
+    let mut earlier = NameSet::new(alloc);
     let mut index = 0;
     'operations: for operation in operations {
-        match op_read(alloc, known, earlier.as_slice(), operation) {
+        match op_read(alloc, known, &earlier, operation) {
             Ok(operation) => {
                 add_name(alloc, &mut earlier, &operation)?;
                 ops.push(operation)?;
@@ -81,30 +102,22 @@ fn front(alloc: Global, known: &Known, operations: &[Value]) -> Result<Reached, 
             Err(Fault::OutOfMemory) => return Err(OutOfMemory),
             Err(Fault::Refused(word)) => {
                 let fault = Some(OpFault { index, word });
-                return Ok(Reached { ops, fault });
+                return Ok(ReadSoFar { ops, fault });
             }
         }
         index += 1;
     }
-    Ok(Reached { ops, fault: None })
+    Ok(ReadSoFar { ops, fault: None })
 }
 
-fn with_names(
-    alloc: Global,
-    names: List<Option<Txt>>,
-    operations: &[Value],
-) -> Result<Ops, OutOfMemory>
-    ensures { IfOk result (λ ops. ops ≡ with_names names (map view operations.now)) }
+fn read_with(alloc: Global, known: Insertions, operations: &[Value]) -> Result<Ops, OutOfMemory>
+    ensures { IfOk result (λ ops. ops ≡ read_with known (map view operations.now)) }
 {
-    let known = Known {
-        every: false,
-        names,
-    };
-    let front = front(alloc, &known, operations)?;
+    let read = read_so_far(alloc, &Known::OneOf(known.taken), operations)?;
     Ok(Ops {
-        ops: front.ops,
+        ops: read.ops,
         names: known.names,
-        fault: front.fault,
+        fault: read.fault,
         count: operations.len() as u64,
     })
 }
@@ -135,6 +148,6 @@ pub fn read_ops(alloc: Global, params: &Value) -> Result<Ops, OutOfMemory>
     ensures { IfOk result (λ ops. ops ≡ ops_in (view params.now)) }
 {
     let operations = operations(params);
-    let names = known_names(alloc, operations)?;
-    with_names(alloc, names, operations)
+    let known = known_insertions(alloc, operations)?;
+    read_with(alloc, known, operations)
 }

@@ -5,7 +5,7 @@ ghost use Rattle.std.specs.List.{list_all};
 ghost use Rattle.serde_json.specs.View.{view};
 ghost use Rattle.vtep_schema.specs.Tables.{kind_of};
 ghost use Rattle.transact_profile.specs.Refusing.{Reads};
-ghost use Rattle.transact_profile.specs.Values.{resolves, fits, holds_mac, lower_mac, taken, set_fits, map_fits, set_of_atoms, set_value, map_of_pairs, map_value, a_set, a_map, value_by, column_value, id_rule, field_value, one_number, pairs_or_keys, deleted_value, mutation_value};
+ghost use Rattle.transact_profile.specs.Values.{resolves, fits, holds_mac, lower_mac, lower_cased, set_fits, map_fits, set_of_atoms, set_value, map_of_pairs, map_value, a_set, a_map, value_by, column_value, id_rule, field_value, one_number, pairs_or_keys, deleted_value, mutation_value};
 
 use crate::faults::Fault;
 use crate::known::Known;
@@ -38,7 +38,7 @@ fn resolves(known: &Known, atom: &Atom) -> bool
     ensures { result ≡ resolves known.now atom.now }
 {
     match atom {
-        Atom::Named(name) => known.has(name.as_str()),
+        Atom::Named(_) => known.has(atom),
         _ => true,
     }
 }
@@ -110,8 +110,8 @@ fn lower_mac(text: Txt) -> Txt
     Txt::from_string(text)
 }
 
-fn taken(domain: Domain, atom: Atom) -> Atom
-    ensures { result ≡ taken domain atom }
+fn lower_cased(domain: Domain, atom: Atom) -> Atom
+    ensures { result ≡ lower_cased domain atom }
 {
     match atom {
         Atom::Text(text) if holds_mac(domain) => Atom::Text(lower_mac(text)),
@@ -119,12 +119,16 @@ fn taken(domain: Domain, atom: Atom) -> Atom
     }
 }
 
-fn all_taken(alloc: Global, domain: Domain, atoms: List<Atom>) -> Result<List<Atom>, OutOfMemory>
-    ensures { IfOk result (λ all. all ≡ map (taken domain) atoms) }
+fn all_lower_cased(
+    alloc: Global,
+    domain: Domain,
+    atoms: List<Atom>,
+) -> Result<List<Atom>, OutOfMemory>
+    ensures { IfOk result (λ all. all ≡ map (lower_cased domain) atoms) }
 {
     let mut all = List::new(alloc);
     'atoms: for atom in atoms.into_vec() {
-        all.push(taken(domain, atom))?;
+        all.push(lower_cased(domain, atom))?;
     }
     Ok(all)
 }
@@ -140,7 +144,7 @@ fn set_of_atoms(
     if !all_resolve(known, atoms.as_slice()) {
         return Err(UNKNOWN_NAME);
     }
-    let atoms = all_taken(alloc, rule.key, atoms)?;
+    let atoms = all_lower_cased(alloc, rule.key, atoms)?;
     let Some(set) = AtomSet::of(alloc, atoms)? else {
         return Err(OUT_OF_BOUNDS);
     };

@@ -1,7 +1,0 @@
-use Rattle.std.proofs.Common.{◌≡◌, map, drop}
-use Rattle.serde_json.specs.View.{view}
-use Rattle.transact_profile.specs.Transaction.{known_from, known_names}
-use Rattle.transact_profile.proofs.transaction.known_names.Given as goal
-
-abbrev pub invariant-operations : goal.invariant-operations
-invariant-operations l = known_from l.earlier (map view (drop l.operation-index l.operations)) ≡ known_names (map view l.operations)
