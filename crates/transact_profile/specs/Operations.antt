@@ -150,78 +150,60 @@ abbrev pub is_new : Earlier → Option Bytes → Bool
 is_new earlier None = true
 is_new earlier (Some name) = not (maps.has earlier (Named name))
 
-abbrev pub whole_insert : Table → Option Bytes → List (Column × Datum) → Reading Op
-whole_insert t name row = needs word.ConstraintViolation (is_whole_row t row) (Ok (op.Insert t row name))
-
-abbrev pub insert_into : Known → Earlier → Table → Row → Option Bytes → Reading Op
-insert_into known earlier t row name =
-    needs word.UnknownColumn (row_known t row)
-    (needs word.PermissionError ((table_rule t).open_to_sessions && row_permitted t row)
-    (needs word.DuplicateUuidName (is_new earlier name)
-    (cells known t row >>? whole_insert t name)))
-
 abbrev pub insert_read : Known → Earlier → Data → Reading Op
 insert_read known earlier d =
     member as_str (codes "table") d >>? λ table.
     member members_in (codes "row") d >>? λ row.
     optional as_str (codes "uuid-name") d >>? λ name.
-    table_read table >>? λ t. insert_into known earlier t row name
-
-abbrev pub select_from : Known → Table → List Data → Option (List Data) → Reading Op
-select_from known t ts columns =
-    needs word.UnknownColumn (triples_known t ts && columns_known t columns)
-    (conditions known t ts >>? λ cs. chosen t columns >>? λ fs. Ok (op.Select t cs fs))
+    table_read table >>? λ t.
+    needs word.UnknownColumn (row_known t row)
+    (needs word.PermissionError ((table_rule t).open_to_sessions && row_permitted t row)
+    (needs word.DuplicateUuidName (is_new earlier name)
+    (cells known t row >>? λ values.
+    needs word.ConstraintViolation (is_whole_row t values) (Ok (op.Insert t values name)))))
 
 abbrev pub select_read : Known → Data → Reading Op
 select_read known d =
     member as_str (codes "table") d >>? λ table.
     member (items_that is_triple) (codes "where") d >>? λ ts.
     optional (items_that is_text) (codes "columns") d >>? λ columns.
-    table_read table >>? λ t. select_from known t ts columns
-
-abbrev pub whole_update : Table → List (Column × Datum) → List Condition → Reading Op
-whole_update t row cs = needs word.ConstraintViolation (none_fixed row) (Ok (op.Update t cs row))
-
-abbrev pub update_in : Known → Table → List Data → Row → Reading Op
-update_in known t ts row =
-    needs word.UnknownColumn (row_known t row && triples_known t ts)
-    (needs word.PermissionError (row_permitted t row)
-    (cells known t row >>? λ values. conditions known t ts >>? whole_update t values))
+    table_read table >>? λ t.
+    needs word.UnknownColumn (triples_known t ts && columns_known t columns)
+    (conditions known t ts >>? λ cs.
+    chosen t columns >>? λ fs. Ok (op.Select t cs fs))
 
 abbrev pub update_read : Known → Data → Reading Op
 update_read known d =
     member as_str (codes "table") d >>? λ table.
     member (items_that is_triple) (codes "where") d >>? λ ts.
     member members_in (codes "row") d >>? λ row.
-    table_read table >>? λ t. update_in known t ts row
-
-abbrev pub whole_mutate : Table → List Condition → List Mutation → Reading Op
-whole_mutate t cs ms = needs word.ConstraintViolation (none_mutated ms) (Ok (op.Mutate t cs ms))
-
-abbrev pub mutate_in : Known → Table → List Data → List Data → Reading Op
-mutate_in known t ts us =
-    needs word.UnknownColumn (triples_known t ts && triples_known t us)
-    (needs word.PermissionError (triples_permitted t us)
-    (conditions known t ts >>? λ cs. mutations known t us >>? whole_mutate t cs))
+    table_read table >>? λ t.
+    needs word.UnknownColumn (row_known t row && triples_known t ts)
+    (needs word.PermissionError (row_permitted t row)
+    (cells known t row >>? λ values.
+    conditions known t ts >>? λ cs.
+    needs word.ConstraintViolation (none_fixed values) (Ok (op.Update t cs values))))
 
 abbrev pub mutate_read : Known → Data → Reading Op
 mutate_read known d =
     member as_str (codes "table") d >>? λ table.
     member (items_that is_triple) (codes "where") d >>? λ ts.
     member (items_that is_triple) (codes "mutations") d >>? λ us.
-    table_read table >>? λ t. mutate_in known t ts us
-
-abbrev pub delete_from : Known → Table → List Data → Reading Op
-delete_from known t ts =
-    needs word.UnknownColumn (triples_known t ts)
-    (needs word.PermissionError (table_rule t).open_to_sessions
-    (conditions known t ts >>? λ cs. Ok (op.Delete t cs)))
+    table_read table >>? λ t.
+    needs word.UnknownColumn (triples_known t ts && triples_known t us)
+    (needs word.PermissionError (triples_permitted t us)
+    (conditions known t ts >>? λ cs.
+    mutations known t us >>? λ ms.
+    needs word.ConstraintViolation (none_mutated ms) (Ok (op.Mutate t cs ms))))
 
 abbrev pub delete_read : Known → Data → Reading Op
 delete_read known d =
     member as_str (codes "table") d >>? λ table.
     member (items_that is_triple) (codes "where") d >>? λ ts.
-    table_read table >>? λ t. delete_from known t ts
+    table_read table >>? λ t.
+    needs word.UnknownColumn (triples_known t ts)
+    (needs word.PermissionError (table_rule t).open_to_sessions
+    (conditions known t ts >>? λ cs. Ok (op.Delete t cs)))
 
 -- ---- wait
 
@@ -250,13 +232,6 @@ object_known t d = unwrap_or (option_map (row_known t) (members_in d)) false
 abbrev pub objects_known : Table → List Data → Bool
 objects_known t ds = list_all (object_known t) ds
 
-abbrev pub wait_in : Known → Table → List Data → Option (List Data) → Until → List Data → Reading Op
-wait_in known t ts columns until rows =
-    needs word.UnknownColumn (triples_known t ts && columns_known t columns && objects_known t rows)
-    (conditions known t ts >>? λ cs.
-    chosen t columns >>? λ fs.
-    waited_rows known t (waited_fields t fs) rows >>? λ waited. Ok (op.Wait t cs fs until waited))
-
 abbrev pub wait_read : Known → Data → Reading Op
 wait_read known d =
     member as_str (codes "table") d >>? λ table.
@@ -265,7 +240,11 @@ wait_read known d =
     member until_of (codes "until") d >>? λ until.
     member (items_that is_object) (codes "rows") d >>? λ rows.
     optional number_of (codes "timeout") d >>? λ timeout.
-    table_read table >>? λ t. wait_in known t ts columns until rows
+    table_read table >>? λ t.
+    needs word.UnknownColumn (triples_known t ts && columns_known t columns && objects_known t rows)
+    (conditions known t ts >>? λ cs.
+    chosen t columns >>? λ fs.
+    waited_rows known t (waited_fields t fs) rows >>? λ waited. Ok (op.Wait t cs fs until waited))
 
 -- ---- by name
 

@@ -1,10 +1,9 @@
 //! Operations as they are written.
 
-ghost use Rattle.std.specs.Prelude.{◌≡◌, map, option_map, IfOk};
-ghost use Rattle.serde_json.specs.View.{view, members_view};
-ghost use Rattle.json_notation.specs.Json.{members_of};
+ghost use Rattle.std.specs.Prelude.{◌≡◌, option_map, IfOk};
+ghost use Rattle.serde_json.specs.View.{view};
 ghost use Rattle.transact_profile.specs.Refusing.{Reads};
-ghost use Rattle.transact_profile.specs.Operations.{is_new, whole_insert, insert_into, insert_read, select_from, select_read, whole_update, update_in, update_read, whole_mutate, mutate_in, mutate_read, delete_from, delete_read, wait_in, wait_read, commit_read, comment_read, named_op, op_read};
+ghost use Rattle.transact_profile.specs.Operations.{is_new, insert_read, select_read, update_read, mutate_read, delete_read, wait_read, commit_read, comment_read, named_op, op_read};
 
 use crate::columns::{
     columns_known, is_whole_row, none_fixed, none_mutated, objects_known, row_known, row_permitted,
@@ -17,13 +16,13 @@ use crate::members::{
     text_member, triples_member, until_member,
 };
 use crate::names::NameSet;
-use crate::operations::{Condition, Mutation, Op, Until};
+use crate::operations::Op;
 use crate::parts::{cells, chosen, conditions, mutations, table_read, waited_rows};
-use ovsdb_values::{Atom, Datum};
-use serde_json::{Map, Value};
+use ovsdb_values::Atom;
+use serde_json::Value;
 use std::alloc::Global;
-use vtep_base::{List, OutOfMemory, Txt, Word};
-use vtep_schema::{Column, Table, table_rule};
+use vtep_base::{OutOfMemory, Txt, Word};
+use vtep_schema::table_rule;
 
 const UNKNOWN_COLUMN: Fault = Fault::Refused(Word::UnknownColumn);
 
@@ -53,39 +52,6 @@ fn owned(alloc: Global, name: Option<&str>) -> Result<Option<Txt>, OutOfMemory>
     }
 }
 
-fn whole_insert(table: Table, name: Option<Txt>, row: List<(Column, Datum)>) -> Result<Op, Fault>
-    ensures { Reads result (whole_insert table name row) }
-{
-    if !is_whole_row(table, row.as_slice()) {
-        return Err(OUT_OF_BOUNDS);
-    }
-    Ok(Op::Insert { table, row, name })
-}
-
-fn insert_into(
-    alloc: Global,
-    known: &Known,
-    earlier: &NameSet,
-    table: Table,
-    row: &Map<String, Value>,
-    name: Option<&str>,
-) -> Result<Op, Fault>
-    ensures { Reads result (insert_into known.now earlier.now table
-        (members_of (members_view row.now.entries)) (option_map (λ s. s.now) name.entry)) }
-{
-    if !row_known(table, row) {
-        return Err(UNKNOWN_COLUMN);
-    }
-    if !(table_rule(table).open_to_sessions && row_permitted(table, row)) {
-        return Err(NOT_PERMITTED);
-    }
-    if !is_new(alloc, earlier, name)? {
-        return Err(Fault::Refused(Word::DuplicateUuidName));
-    }
-    let row = cells(alloc, known, table, row)?;
-    whole_insert(table, owned(alloc, name)?, row)
-}
-
 fn insert_read(
     alloc: Global,
     known: &Known,
@@ -98,19 +64,30 @@ fn insert_read(
     let row = object_member("row", operation)?;
     let name = optional_text("uuid-name", operation)?;
     let table = table_read(table)?;
-    insert_into(alloc, known, earlier, table, row, name)
+    if !row_known(table, row) {
+        return Err(UNKNOWN_COLUMN);
+    }
+    if !(table_rule(table).open_to_sessions && row_permitted(table, row)) {
+        return Err(NOT_PERMITTED);
+    }
+    if !is_new(alloc, earlier, name)? {
+        return Err(Fault::Refused(Word::DuplicateUuidName));
+    }
+    let row = cells(alloc, known, table, row)?;
+    if !is_whole_row(table, row.as_slice()) {
+        return Err(OUT_OF_BOUNDS);
+    }
+    let name = owned(alloc, name)?;
+    Ok(Op::Insert { table, row, name })
 }
 
-fn select_from(
-    alloc: Global,
-    known: &Known,
-    table: Table,
-    triples: &[Value],
-    columns: Option<&[Value]>,
-) -> Result<Op, Fault>
-    ensures { Reads result (select_from known.now table (map view triples.now)
-        (option_map (λ s. map view s.now) columns.entry)) }
+fn select_read(alloc: Global, known: &Known, operation: &Value) -> Result<Op, Fault>
+    ensures { Reads result (select_read known.now (view operation.now)) }
 {
+    let table = text_member("table", operation)?;
+    let triples = triples_member("where", operation)?;
+    let columns = optional_texts("columns", operation)?;
+    let table = table_read(table)?;
     if !(triples_known(table, triples) && columns_known(table, columns)) {
         return Err(UNKNOWN_COLUMN);
     }
@@ -123,23 +100,21 @@ fn select_from(
     })
 }
 
-fn select_read(alloc: Global, known: &Known, operation: &Value) -> Result<Op, Fault>
-    ensures { Reads result (select_read known.now (view operation.now)) }
+fn update_read(alloc: Global, known: &Known, operation: &Value) -> Result<Op, Fault>
+    ensures { Reads result (update_read known.now (view operation.now)) }
 {
     let table = text_member("table", operation)?;
     let triples = triples_member("where", operation)?;
-    let columns = optional_texts("columns", operation)?;
+    let row = object_member("row", operation)?;
     let table = table_read(table)?;
-    select_from(alloc, known, table, triples, columns)
-}
-
-fn whole_update(
-    table: Table,
-    row: List<(Column, Datum)>,
-    conditions: List<Condition>,
-) -> Result<Op, Fault>
-    ensures { Reads result (whole_update table row conditions) }
-{
+    if !(row_known(table, row) && triples_known(table, triples)) {
+        return Err(UNKNOWN_COLUMN);
+    }
+    if !row_permitted(table, row) {
+        return Err(NOT_PERMITTED);
+    }
+    let row = cells(alloc, known, table, row)?;
+    let conditions = conditions(alloc, known, table, triples)?;
     if !none_fixed(row.as_slice()) {
         return Err(OUT_OF_BOUNDS);
     }
@@ -150,44 +125,21 @@ fn whole_update(
     })
 }
 
-fn update_in(
-    alloc: Global,
-    known: &Known,
-    table: Table,
-    triples: &[Value],
-    row: &Map<String, Value>,
-) -> Result<Op, Fault>
-    ensures { Reads result (update_in known.now table (map view triples.now)
-        (members_of (members_view row.now.entries))) }
-{
-    if !(row_known(table, row) && triples_known(table, triples)) {
-        return Err(UNKNOWN_COLUMN);
-    }
-    if !row_permitted(table, row) {
-        return Err(NOT_PERMITTED);
-    }
-    let row = cells(alloc, known, table, row)?;
-    let conditions = conditions(alloc, known, table, triples)?;
-    whole_update(table, row, conditions)
-}
-
-fn update_read(alloc: Global, known: &Known, operation: &Value) -> Result<Op, Fault>
-    ensures { Reads result (update_read known.now (view operation.now)) }
+fn mutate_read(alloc: Global, known: &Known, operation: &Value) -> Result<Op, Fault>
+    ensures { Reads result (mutate_read known.now (view operation.now)) }
 {
     let table = text_member("table", operation)?;
     let triples = triples_member("where", operation)?;
-    let row = object_member("row", operation)?;
+    let changes = triples_member("mutations", operation)?;
     let table = table_read(table)?;
-    update_in(alloc, known, table, triples, row)
-}
-
-fn whole_mutate(
-    table: Table,
-    conditions: List<Condition>,
-    mutations: List<Mutation>,
-) -> Result<Op, Fault>
-    ensures { Reads result (whole_mutate table conditions mutations) }
-{
+    if !(triples_known(table, triples) && triples_known(table, changes)) {
+        return Err(UNKNOWN_COLUMN);
+    }
+    if !triples_permitted(table, changes) {
+        return Err(NOT_PERMITTED);
+    }
+    let conditions = conditions(alloc, known, table, triples)?;
+    let mutations = mutations(alloc, known, table, changes)?;
     if !none_mutated(mutations.as_slice()) {
         return Err(OUT_OF_BOUNDS);
     }
@@ -198,40 +150,12 @@ fn whole_mutate(
     })
 }
 
-fn mutate_in(
-    alloc: Global,
-    known: &Known,
-    table: Table,
-    triples: &[Value],
-    changes: &[Value],
-) -> Result<Op, Fault>
-    ensures { Reads result (mutate_in known.now table (map view triples.now)
-        (map view changes.now)) }
-{
-    if !(triples_known(table, triples) && triples_known(table, changes)) {
-        return Err(UNKNOWN_COLUMN);
-    }
-    if !triples_permitted(table, changes) {
-        return Err(NOT_PERMITTED);
-    }
-    let conditions = conditions(alloc, known, table, triples)?;
-    let mutations = mutations(alloc, known, table, changes)?;
-    whole_mutate(table, conditions, mutations)
-}
-
-fn mutate_read(alloc: Global, known: &Known, operation: &Value) -> Result<Op, Fault>
-    ensures { Reads result (mutate_read known.now (view operation.now)) }
+fn delete_read(alloc: Global, known: &Known, operation: &Value) -> Result<Op, Fault>
+    ensures { Reads result (delete_read known.now (view operation.now)) }
 {
     let table = text_member("table", operation)?;
     let triples = triples_member("where", operation)?;
-    let changes = triples_member("mutations", operation)?;
     let table = table_read(table)?;
-    mutate_in(alloc, known, table, triples, changes)
-}
-
-fn delete_from(alloc: Global, known: &Known, table: Table, triples: &[Value]) -> Result<Op, Fault>
-    ensures { Reads result (delete_from known.now table (map view triples.now)) }
-{
     if !triples_known(table, triples) {
         return Err(UNKNOWN_COLUMN);
     }
@@ -242,27 +166,16 @@ fn delete_from(alloc: Global, known: &Known, table: Table, triples: &[Value]) ->
     Ok(Op::Delete { table, conditions })
 }
 
-fn delete_read(alloc: Global, known: &Known, operation: &Value) -> Result<Op, Fault>
-    ensures { Reads result (delete_read known.now (view operation.now)) }
+fn wait_read(alloc: Global, known: &Known, operation: &Value) -> Result<Op, Fault>
+    ensures { Reads result (wait_read known.now (view operation.now)) }
 {
     let table = text_member("table", operation)?;
     let triples = triples_member("where", operation)?;
+    let columns = optional_texts("columns", operation)?;
+    let until = until_member("until", operation)?;
+    let rows = objects_member("rows", operation)?;
+    let _timeout = optional_number("timeout", operation)?;
     let table = table_read(table)?;
-    delete_from(alloc, known, table, triples)
-}
-
-fn wait_in(
-    alloc: Global,
-    known: &Known,
-    table: Table,
-    triples: &[Value],
-    columns: Option<&[Value]>,
-    until: Until,
-    rows: &[Value],
-) -> Result<Op, Fault>
-    ensures { Reads result (wait_in known.now table (map view triples.now)
-        (option_map (λ s. map view s.now) columns.entry) until (map view rows.now)) }
-{
     if !(triples_known(table, triples)
         && columns_known(table, columns)
         && objects_known(table, rows))
@@ -279,19 +192,6 @@ fn wait_in(
         until,
         rows,
     })
-}
-
-fn wait_read(alloc: Global, known: &Known, operation: &Value) -> Result<Op, Fault>
-    ensures { Reads result (wait_read known.now (view operation.now)) }
-{
-    let table = text_member("table", operation)?;
-    let triples = triples_member("where", operation)?;
-    let columns = optional_texts("columns", operation)?;
-    let until = until_member("until", operation)?;
-    let rows = objects_member("rows", operation)?;
-    let _timeout = optional_number("timeout", operation)?;
-    let table = table_read(table)?;
-    wait_in(alloc, known, table, triples, columns, until, rows)
 }
 
 fn commit_read(operation: &Value) -> Result<Op, Fault>
