@@ -25,5 +25,5 @@ pub naming_exact : IsAntisymmetric naming_cmp
 naming_exact a b e =
     let t = table_cmp a.0 b.0 in
     let n = nat_cmp a.1 b.1 in
-    let front = first_equal (ordering_then t n) (table_cmp a.2 b.2) e in
-    λ i. (table_exact a.0 b.0 (first_equal t n front) i, exact_unsigned a.1 b.1 (second_equal t n front) i, table_exact a.2 b.2 (second_equal (ordering_then t n) (table_cmp a.2 b.2) e) i)
+    let two = first_equal (ordering_then t n) (table_cmp a.2 b.2) e in
+    λ i. (table_exact a.0 b.0 (first_equal t n two) i, exact_unsigned a.1 b.1 (second_equal t n two) i, table_exact a.2 b.2 (second_equal (ordering_then t n) (table_cmp a.2 b.2) e) i)

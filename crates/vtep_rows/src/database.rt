@@ -5,7 +5,8 @@ ghost use Rattle.vtep_schema.specs.Tables.{same_table, table_place};
 ghost use Rattle.vtep_base.specs.Maps.{Map};
 ghost use Rattle.vtep_rows.specs.Row.{Contents};
 ghost use Rattle.vtep_rows.specs.Rows.{Key, key_cmp, IsRows, row_at, next_id, last_number, inserted, replaced, removed, has_key, collected};
-ghost use Rattle.vtep_rows.specs.Faults.{IsSpentOrMemory};
+ghost use Rattle.vtep_base.specs.Answers.{OrMemory};
+ghost use Rattle.vtep_rows.specs.Faults.{rows_refusal};
 ghost use Rattle.vtep_rows.specs.Changes.{changes};
 ghost use Rattle.vtep_rows.specs.Sound.{broken};
 ghost use Rattle.vtep_rows.specs.Database.{collected_at, let_go, later_than, IsCollecting, from_place, ids_at};
@@ -101,7 +102,8 @@ impl Database {
         ensures id { IfOk result (λ id. id ≡ next_id self.old.current) }
         ensures room { OnOk result (self.old.current.counter < last_number) }
         ensures err { OnErr result (self.new ≡ self.old) }
-        ensures spent { IfErr result (λ fault. IsSpentOrMemory fault self.old.current) }
+        ensures spent { IfErr result
+            (λ fault. OrMemory (rows_refusal fault) (λ _. self.old.current.counter ≡ last_number)) }
     {
         let id = self.before.insert_row(&mut self.rows, table, row)?;
         Ok(id)
@@ -219,7 +221,7 @@ impl Database {
         requires { broken self.now.committed ≡ None }
         ensures { result ≡ broken self.now.current }
     {
-        let Ok(()) = self.rows.keep(Rule::Limit) else {
+        let Ok(()) = self.rows.check_rule(Rule::Limit) else {
             return Some(Rule::Limit);
         };
         if self.before.break_references(&self.rows) {

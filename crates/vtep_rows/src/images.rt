@@ -5,7 +5,8 @@ ghost use Rattle.std.specs.List.{cons_option};
 ghost use Rattle.vtep_base.specs.Maps as maps;
 ghost use Rattle.vtep_schema.specs.Tables.{same_table};
 ghost use Rattle.vtep_rows.specs.Rows.{Key, has_key, same_key, row_at, next_id, last_number, inserted, replaced, removed, is_given};
-ghost use Rattle.vtep_rows.specs.Faults.{IsSpentOrMemory};
+ghost use Rattle.vtep_base.specs.Answers.{OrMemory};
+ghost use Rattle.vtep_rows.specs.Faults.{rows_refusal};
 ghost use Rattle.vtep_rows.specs.Changes.{differ};
 ghost use Rattle.vtep_rows.specs.Database.{remembered, changed_at, differing_in, image_fits, images_fit, backed, all_backed, dangles, doubled, any_dangles, any_doubled, may_go, image_names};
 
@@ -112,7 +113,8 @@ impl Images {
         ensures room { OnOk result (rows.old.counter < last_number) }
         ensures rows_err { OnErr result (rows.new ≡ rows.old) }
         ensures images_err { OnErr result (self.new ≡ self.old) }
-        ensures spent { IfErr result (λ fault. IsSpentOrMemory fault rows.old) }
+        ensures spent { IfErr result
+            (λ fault. OrMemory (rows_refusal fault) (λ _. rows.old.counter ≡ last_number)) }
     {
         let id = rows.id(rows.counter() + 1);
         if self.has(table, id) {

@@ -8,7 +8,8 @@ ghost use Rattle.vtep_rows.specs.Row.{is_row, first};
 ghost use Rattle.vtep_rows.specs.Rows.{row_id, next_id, last_number, row_at, rows_of, ids_of, opening, inserted, replaced, removed, unnamed_from, collected, is_given, names, is_named, IsRows};
 ghost use Rattle.vtep_rows.specs.Marks.{agree_at};
 ghost use Rattle.vtep_rows.specs.Keyed.{holds, first_key};
-ghost use Rattle.vtep_rows.specs.Faults.{IsSpentOrMemory};
+ghost use Rattle.vtep_base.specs.Answers.{OrMemory};
+ghost use Rattle.vtep_rows.specs.Faults.{rows_refusal};
 
 use crate::indexed::Indexed;
 use crate::row::Row;
@@ -253,7 +254,8 @@ impl Rows {
         ensures fresh { IfOk result (λ id. (t : Table) → row_at self.old (t, id) ≡ None) }
         ensures room { OnOk result (self.old.counter < last_number) }
         ensures err { OnErr result (self.new ≡ self.old) }
-        ensures spent { IfErr result (λ fault. IsSpentOrMemory fault self.old) }
+        ensures spent { IfErr result
+            (λ fault. OrMemory (rows_refusal fault) (λ _. self.old.counter ≡ last_number)) }
     {
         if self.counter == LAST_NUMBER {
             return Err(RowsFault::Spent);
