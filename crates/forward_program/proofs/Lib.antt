@@ -3,3 +3,15 @@ pub mod Bounds
 pub mod Puts
 pub mod PortEntries
 pub mod Cleared
+pub mod InLists
+pub mod RowsIn
+pub mod SpotOrder
+pub mod Given
+pub mod MapLists
+pub mod Columns
+pub mod Unique
+pub mod Walks
+pub mod JoinLaws
+pub mod FactLaws
+pub mod Once
+pub mod Told

@@ -24,6 +24,11 @@ abbrev pub IsIn : {A : Type 0} → A → List A → Type 0
 IsIn x [] = ⊥
 IsIn x (y ∷ ys) = (x ≡ y) ⊎ IsIn x ys
 
+-- each stands once
+abbrev pub AreApart : {A : Type 0} → List A → Type 0
+AreApart [] = Unit {0}
+AreApart (x ∷ xs) = (IsIn x xs → ⊥) × AreApart xs
+
 -- ---- bindings
 
 -- a VLAN of a port, its switch, and its ACLs

@@ -1,11 +1,14 @@
 //! The forwarding state.
 
-ghost use Rattle.std.specs.Prelude.{◌≡◌, ◌≤◌, ◌+◌, ◌++◌, ℕ, false, true, None, length, vec_len, filter_map, flat_map, IsSome, IfOk, OnOk, OnErr};
+ghost use Rattle.std.specs.Prelude.{◌≡◌, ◌≤◌, ◌+◌, ◌++◌, ℕ, false, true, None, ◌↔◌, length, vec_len, filter_map, flat_map, IsSome, IfOk, OnOk, OnErr};
 ghost use Rattle.std.specs.List.{list_all};
 ghost use Rattle.std.specs.Option.{option_to_list};
 ghost use Rattle.vtep_base.specs.Maps as maps;
 ghost use Rattle.vtep_rows.specs.Row.{put_all, ids_at, id_in, first};
 ghost use Rattle.vtep_rows.specs.Rows.{Rows as AllRows};
+ghost use Rattle.forward_program.specs.declared.facts.Fact.{Fact};
+ghost use Rattle.forward_program.specs.Built.{IsIn, built};
+ghost use Rattle.forward_program.specs.Joins.{facts_of};
 ghost use Rattle.vtep_rows.specs.Sound.{Sound};
 ghost use Rattle.vtep_rows.specs.Changes.{changes};
 ghost use Rattle.forward_program.specs.Readings.{own_address, number_and_id, is_vlan};
@@ -340,12 +343,18 @@ impl<L: Ledger> Fib<L> {
         Ok(())
     }
 
-    /// The forwarding state of rows with an own address.
+    /// The forwarding state of sound rows with an own address.
     pub fn build(alloc: Global, rows: &Rows, steps: &mut Steps<L>) -> Result<Fib<L>, OutOfMemory>
+        requires sound { Sound rows.now }
         requires own { IsSome (own_address rows.now) }
         ensures state { IfOk result
             (λ fib. fib ≡ record { entries = shown rows.now; broken = false }) }
+        // It says what is built from the rows.
+        ensures built { IfOk result (λ fib. (f : Fact)
+            → IsIn f (facts_of fib.entries) ↔ IsIn f (built rows.now)) }
     {
+        // It says that each row is one of its table.
+        let _ = rows.counter();
         let mut fib = Fib::new(alloc);
         fib.fill(alloc, rows, steps)?;
         Ok(fib)
@@ -390,6 +399,7 @@ impl<L: Ledger> Fib<L> {
         steps: &mut Steps<L>,
     ) -> Result<(), OutOfMemory>
         requires going { self.old.broken ≡ false }
+        requires sound { Sound rows.now }
         requires own { IsSome (own_address rows.now) }
         ensures state { (before : AllRows) → Sound before → _change.now ≡ changes before rows.now
             → self.old.entries ≡ shown before

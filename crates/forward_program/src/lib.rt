@@ -4,6 +4,7 @@
 mod facts;
 mod fib;
 mod held;
+mod laws;
 mod looks;
 mod readings;
 mod spots;
@@ -11,4 +12,5 @@ mod spots;
 pub use facts::{Fact, Place};
 pub use fib::Fib;
 pub use held::{Few, Held, Lists};
+pub use laws::facts_are_built;
 pub use spots::{Part, Spot};

@@ -1,11 +1,16 @@
 //! What the forwarding state says, read off its entries.
 
-ghost use Rattle.std.specs.Prelude.{◌≡◌, ◌≤◌, ◌<◌, ◌+◌, length, vec_len, option_map, vec_capacity, MatchResult, IfOk, OnOk, OnErr, false};
+ghost use Rattle.std.specs.Prelude.{◌≡◌, ◌≤◌, ◌<◌, ◌+◌, length, vec_len, option_map, vec_capacity, MatchResult, Some, IfOk, OnOk, OnErr, ◌↔◌, false};
 ghost use Rattle.std.specs.List.{filter_map};
 ghost use Rattle.std.specs.Ordering.{nat_cmp};
 ghost use Rattle.std.specs.BTreeSet.{insert_key};
 ghost use Rattle.locator_sets.specs.Locators.{with_each};
-ghost use Rattle.forward_program.specs.Built.{acl_rows};
+ghost use Rattle.vtep_rows.specs.Rows.{Rows as AllRows, IsRows};
+ghost use Rattle.vtep_rows.specs.Sound.{Sound};
+ghost use Rattle.forward_program.specs.declared.facts.Fact.{Fact as SomeFact};
+ghost use Rattle.forward_program.specs.declared.facts.Place.{Place as SomePlace};
+ghost use Rattle.forward_program.specs.Built.{IsIn, AreApart, acl_rows, built};
+ghost use Rattle.forward_program.specs.Shown.{shown};
 ghost use Rattle.forward_program.specs.Joins.{part_step, step_of, is_bound_at, bound_at, network_at, vni_at, mode_at, address_at, addresses_at, locators_at, place_by, place_at, found_at, flood_at, part_fact, fact_at, facts_of};
 ghost use Rattle.forward_program.specs.Inserts.{InsertsAt};
 
@@ -160,6 +165,10 @@ impl<L: Ledger> Fib<L> {
     pub fn find(&self, switch: RowId, mac: Mac) -> Option<Place>
         requires going { self.now.broken ≡ false }
         ensures place { result ≡ found_at self.now.entries switch mac }
+        // Of sound rows it is the place that is built from the rows.
+        ensures built { (r : AllRows) → IsRows r → Sound r → self.now.entries ≡ shown r
+            → (place : SomePlace) → (result ≡ Some place)
+            ↔ IsIn (Fact.Mac switch mac place) (built r) }
     {
         self.found(switch, mac)
     }
@@ -318,9 +327,7 @@ impl<L: Ledger> Fib<L> {
         }
     }
 
-    /// Every fact once, in the order of their places.
-    pub fn facts(&self, alloc: Global) -> Result<List<Fact>, OutOfMemory>
-        requires going { self.now.broken ≡ false }
+    fn list_facts(&self, alloc: Global) -> Result<List<Fact>, OutOfMemory>
         ensures { IfOk result (λ facts. facts ≡ facts_of self.now.entries) }
     {
         let mut facts = List::new(alloc);
@@ -330,5 +337,17 @@ impl<L: Ledger> Fib<L> {
             }
         }
         Ok(facts)
+    }
+
+    /// Every fact once, in the order of their places.
+    pub fn facts(&self, alloc: Global) -> Result<List<Fact>, OutOfMemory>
+        requires going { self.now.broken ≡ false }
+        ensures order { IfOk result (λ facts. facts ≡ facts_of self.now.entries) }
+        ensures once { IfOk result AreApart }
+        // Of sound rows they are those that are built from the rows.
+        ensures built { (r : AllRows) → IsRows r → Sound r → self.now.entries ≡ shown r
+            → IfOk result (λ facts. (f : SomeFact) → IsIn f facts ↔ IsIn f (built r)) }
+    {
+        self.list_facts(alloc)
     }
 }

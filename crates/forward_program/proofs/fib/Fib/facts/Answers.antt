@@ -1,0 +1,8 @@
+use Rattle.forward_program.proofs.Told.{once_told, built_told}
+use Rattle.forward_program.proofs.fib.Fib.facts.Goals as goal
+
+pub returns-clause-once : goal.returns-clause-once
+returns-clause-once g c = once_told _ c.args.self.now.entries c.list_facts.ensures
+
+pub returns-clause-built : goal.returns-clause-built
+returns-clause-built g c r rows sound is = built_told _ c.args.self.now.entries r rows sound is c.list_facts.ensures

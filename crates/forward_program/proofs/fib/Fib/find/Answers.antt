@@ -1,0 +1,5 @@
+use Rattle.forward_program.proofs.Told.{found_told}
+use Rattle.forward_program.proofs.fib.Fib.find.Goals as goal
+
+pub returns-clause-built : goal.returns-clause-built
+returns-clause-built g c r rows sound is place = found_told _ _ _ _ r rows sound is c.found.ensures place
