@@ -36,9 +36,8 @@ settled_is_quiet : (g : Gateway) (r : Result Rows Rule) → (settled g r).answer
 settled_is_quiet g (Ok r) = refl
 settled_is_quiet g (Err rule) = refl
 
-changed_is_quiet : (g : Gateway) (o : Option Rows) → (changed g o).answer.refused ≡ None
-changed_is_quiet g None = refl
-changed_is_quiet g (Some r) = settled_is_quiet g (commit r)
+changed_is_quiet : (g : Gateway) (r : Rows) → (changed g r).answer.refused ≡ None
+changed_is_quiet g r = settled_is_quiet g (commit r)
 
 port_stays : (g : Gateway) (name : Bytes) (o : Option EventRefused) → Stays g (port_unless g name o)
 port_stays g name None = quiet_stays g (changed g (with_port g.vtep.rows name)) (changed_is_quiet g (with_port g.vtep.rows name))

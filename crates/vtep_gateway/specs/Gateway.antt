@@ -27,14 +27,15 @@ pub record Held : Type 0 where
   pub state : Gateway
   pub stopped : Bool
 
+abbrev pub gateway_code : Coded Gateway
+gateway_code = code_by (Vtep × Streams) (coded× vtep_code streams_code) (λ g. (g.vtep, g.streams)) (λ p. record { vtep = p.0; streams = p.1 }) (λ _. refl)
+
 abbrev pub held_code : Coded Held
-held_code =
-    code_by (Vtep × (Streams × Bool)) (coded× vtep_code (coded× streams_code coded_bool))
-    (λ h. (h.state.vtep, (h.state.streams, h.stopped))) (λ p. record { state = record { vtep = p.0; streams = p.1.0 }; stopped = p.1.1 }) (λ _. refl)
+held_code = code_by (Gateway × Bool) (coded× gateway_code coded_bool) (λ h. (h.state, h.stopped)) (λ p. record { state = p.0; stopped = p.1 }) (λ _. refl)
 
 -- of which no session is open, and so none has monitors
 abbrev pub new_gateway : Bytes → ℕ → Gateway
-new_gateway name ip = record { vtep = record { name = name; ip = ip; rows = opening name ip; monitors = maps.empty }; streams = maps.empty }
+new_gateway name ip = record { vtep = record { name = name; rows = opening name ip; monitors = maps.empty }; streams = maps.empty }
 
 -- what an event comes to
 pub record Step : Type 0 where

@@ -3,7 +3,9 @@ pub mod Monitors
 pub mod Vtep
 pub mod Gateway
 pub mod Commit
+pub mod CommitFaults
 pub mod Ports
+pub mod Settled
 pub mod Methods
 pub mod Sessions
 pub mod Moves

@@ -1,5 +1,5 @@
 -- What requests do (RFC 7047, section 4.1).
-use Rattle.std.specs.Prelude.{ℕ, ⊤, Bool, ◌||◌, if◌then◌else◌, List, [], ◌∷◌, Option, Some, None, option_and_then, codes, Result, Ok, Err, is_err}
+use Rattle.std.specs.Prelude.{◌≡◌, ℕ, ⊤, Bool, ◌||◌, if◌then◌else◌, List, [], ◌∷◌, Option, Some, None, option_and_then, codes, Result, Ok, Err, is_err}
 use Rattle.serde_json.specs.Data.{Data, string, object, no_members}
 use Rattle.serde_json.specs.Find.{at, as_str}
 use Rattle.serde_json.specs.View.{view}
@@ -15,6 +15,8 @@ use Rattle.vtep_gateway.specs.declared.Outgoing.{Outgoing}
 use Rattle.vtep_gateway.specs.declared.methods.Method.{Method}
 use Rattle.vtep_gateway.specs.declared.methods.Method.TheVariants.{Echo, ListDbs, GetSchema, Transact, Monitor, MonitorCancel}
 use Rattle.vtep_rows.specs.declared.soundness.Rule.{Rule}
+use Rattle.vtep_rows.specs.declared.differences.RowChange.{RowChange}
+use Rattle.vtep_rows.specs.Changes.{changes}
 use Rattle.vtep_rows.specs.Rows.{Rows}
 use Rattle.transact_profile.specs.Meaning.{Reply, Outcome, means}
 use Rattle.transact_profile.specs.Transaction.{ops_in}
@@ -76,6 +78,12 @@ ended results (Err rule) = (finished results (Some rule), None)
 -- what a transaction answers, and the rows that it leaves: a transaction that fails or that breaks a rule leaves none
 abbrev pub transacted : Outcome → Data × Option Rows
 transacted o = if o.failed then (finished o.results None, None) else ended o.results (commit o.rows)
+
+-- the change of the rows, where they are kept
+abbrev pub IsChange : Option (List RowChange) → Rows → Option Rows → Type 0
+IsChange None old None = Unit {0}
+IsChange (Some change) old (Some new) = change ≡ changes old new
+IsChange _ old _ = ⊥
 
 -- an operation fails, or the rows after all of them break a rule
 abbrev pub fails : Outcome → Bool

@@ -27,9 +27,8 @@ abbrev pub settled : Gateway → Result Rows Rule → Step
 settled g (Ok r) = record { gateway = record g { vtep = with_rows g.vtep r }; answer = record nothing { sends = told_all g.vtep.rows r g.vtep.monitors } }
 settled g (Err rule) = unchanged g
 
-abbrev pub changed : Gateway → Option Rows → Step
-changed g None = unchanged g
-changed g (Some r) = settled g (commit r)
+abbrev pub changed : Gateway → Rows → Step
+changed g r = settled g (commit r)
 
 abbrev pub port_unless : Gateway → Bytes → Option EventRefused → Step
 port_unless g name None = changed g (with_port g.vtep.rows name)

@@ -1,19 +1,66 @@
 //! What follows a change of the rows.
 
-ghost use Rattle.std.specs.Prelude.{◌≡◌, IfOk};
+ghost use Rattle.std.specs.Prelude.{◌≡◌, Ok, Err, IfOk, IfErr, OnOk};
+ghost use Rattle.vtep_base.specs.Answers.{OrMemory};
+ghost use Rattle.vtep_rows.specs.Changes.{changes};
+ghost use Rattle.vtep_rows.specs.Rows.{collected};
 ghost use Rattle.vtep_gateway.specs.Commit.{commit};
+ghost use Rattle.vtep_gateway.specs.CommitFaults.{rule_of};
+ghost use Rattle.vtep_gateway.specs.Settled.{IsSettled};
 
+use std::alloc::Global;
 use vtep_base::OutOfMemory;
-use vtep_rows::{Rows, Rule};
+use vtep_rows::{Change, Database, Rule};
 
-/// The rows after a change, without those that are to be named and that nothing names, or the rule that they break.
-pub(crate) fn committed(rows: Rows) -> Result<Result<Rows, Rule>, OutOfMemory>
-    ensures { IfOk result (λ r. r ≡ commit rows) }
-{
-    let mut rows = rows;
-    rows.collect_unreferenced()?;
-    match rows.check() {
-        Ok(()) => Ok(Ok(rows)),
-        Err(breach) => Ok(Err(breach.rule)),
+/// Why a change is not kept.
+#[derive(Clone, Copy, Drop)]
+pub(crate) enum CommitFault {
+    OutOfMemory,
+    /// The rows break this rule.
+    Broken(Rule),
+}
+
+impl From<OutOfMemory> for CommitFault {
+    ghost use Rattle.std.specs.Prelude.{◌≡◌};
+    ghost use Rattle.vtep_gateway.specs.declared.commit.CommitFault.TheVariants as fault;
+
+    ghost from_gives = { λ _ e. e ≡ fault.OutOfMemory };
+
+    fn from(_error: OutOfMemory) -> CommitFault {
+        CommitFault::OutOfMemory
     }
+}
+
+/// Takes away the rows that are to be named and that nothing names, and checks the rules. Gives the rows that differ from those
+/// before the change, or takes these back. It costs the rows that were written, not all rows.
+pub(crate) fn commit(alloc: Global, database: &mut Database) -> Result<Change, CommitFault>
+    requires settled { IsSettled database.old.committed }
+    ensures rows { OnOk result (commit database.old.current ≡ Ok database.new.current) }
+    ensures change { IfOk result
+        (λ change. change ≡ changes database.old.committed database.new.current) }
+    ensures broken { IfErr result (λ fault. OrMemory (rule_of fault)
+        (λ rule. (commit database.old.current ≡ Err rule)
+        × (database.new.current ≡ database.old.committed))) }
+{
+    database.collect()?;
+    if let Some(rule) = database.broken() {
+        database.roll_back()?;
+        return Err(CommitFault::Broken(rule));
+    }
+    Ok(database.commit(alloc)?)
+}
+
+/// Takes away the rows that are to be named and that nothing names, of a change that breaks no rule. Gives the rows that differ
+/// from those before it.
+pub(crate) fn commit_unchecked(
+    alloc: Global,
+    database: &mut Database,
+) -> Result<Change, OutOfMemory>
+    requires settled { IsSettled database.old.committed }
+    ensures rows { OnOk result (database.new.current ≡ collected database.old.current) }
+    ensures change { IfOk result
+        (λ change. change ≡ changes database.old.committed database.new.current) }
+{
+    database.collect()?;
+    database.commit(alloc)
 }

@@ -2,60 +2,37 @@
 
 ghost use Rattle.std.specs.Prelude.{◌≡◌, true, false, Some, is_some, IfOk, OnOk, OnErr};
 ghost use Rattle.vtep_gateway.specs.Gateway.{new_gateway, nothing};
-ghost use Rattle.vtep_gateway.specs.Sessions.{on_bytes};
 ghost use Rattle.vtep_gateway.specs.Ports.{port_named};
-ghost use Rattle.vtep_gateway.specs.Moves.{on_hangup, on_port, on_unport, changed, step};
+ghost use Rattle.vtep_gateway.specs.Settled.{own_address, IsSettled};
+ghost use Rattle.vtep_gateway.specs.Moves.{step};
 
-use crate::commit::committed;
-use crate::monitors::Monitors;
-use crate::ports::{port_named, port_refusal, with_port, without_port};
-use crate::streams::Streams;
-use crate::vtep::Vtep;
-use crate::{Answer, Event, EventRefused};
+use crate::ports::{has_port, own_address};
+use crate::running::Running;
+use crate::{Answer, Event};
 use std::alloc::Global;
 use std::marker::Model;
-use vtep_base::{Bytes, Ipv4, List, Name, OutOfMemory};
+use vtep_base::{Ipv4, Name, OutOfMemory};
 use vtep_rows::Rows;
 
 /// A gateway. Contracts see its state, and whether it is stopped.
 #[derive(Drop)]
 pub struct Gateway {
-    alloc: Global,
-    vtep: Vtep,
-    streams: Streams,
+    running: Running,
     stopped: bool,
 }
 
 impl Model for Gateway {
+    ghost use Rattle.std.specs.Prelude.{◌≡◌, false};
     ghost use Rattle.vtep_gateway.specs.Gateway.{Held, held_code};
+    ghost use Rattle.vtep_gateway.specs.Settled.{IsSettled};
 
     ghost Value = { Held };
 
     ghost coded = { held_code };
 
-    ghost view = { λ g. record { state = record { vtep = g.vtep; streams = g.streams }; stopped = g.stopped } };
-}
+    ghost view = { λ g. record { state = g.running; stopped = g.stopped } };
 
-/// What an event comes to of which nothing goes out.
-fn nothing(alloc: Global) -> Answer
-    ensures { result ≡ nothing }
-{
-    Answer {
-        sends: List::new(alloc),
-        failed: None,
-        refused: None,
-    }
-}
-
-/// What an event comes to that is refused.
-fn refused(alloc: Global, why: EventRefused) -> Answer
-    ensures { result ≡ record nothing { refused = Some why } }
-{
-    Answer {
-        sends: List::new(alloc),
-        failed: None,
-        refused: Some(why),
-    }
+    ghost invariant = { λ g. g.stopped ≡ false → IsSettled g.running.vtep.rows };
 }
 
 impl Gateway {
@@ -63,17 +40,8 @@ impl Gateway {
     pub fn new(alloc: Global, name: Name, ip: Ipv4) -> Result<Gateway, OutOfMemory>
         ensures { IfOk result (λ g. g ≡ record { state = new_gateway name ip; stopped = false }) }
     {
-        let rows = Rows::new(alloc, &name, ip)?;
         Ok(Gateway {
-            alloc,
-            vtep: Vtep {
-                alloc,
-                name,
-                ip,
-                rows,
-                monitors: Monitors::new(alloc),
-            },
-            streams: Streams::new(alloc),
+            running: Running::new(alloc, name, ip)?,
             stopped: false,
         })
     }
@@ -82,28 +50,30 @@ impl Gateway {
     pub fn name(&self) -> &Name
         ensures { result.now ≡ self.now.state.vtep.name }
     {
-        &self.vtep.name
+        self.running.name()
     }
 
-    /// The tunnel address.
+    /// The tunnel address, which the row of Physical_Switch has.
     pub fn ip(&self) -> Ipv4
-        ensures { result ≡ self.now.state.vtep.ip }
+        ensures { result ≡ own_address self.now.state.vtep.rows }
     {
-        self.vtep.ip
+        own_address(self.rows())
     }
 
-    /// The rows of its database, as the last commit left them.
+    /// The rows of its database, as the last commit left them. Where it is not stopped they are sound and collected, and there is
+    /// one row of Physical_Switch, with one tunnel address, of which the rows of Physical_Port are the ports.
     pub fn rows(&self) -> &Rows
-        ensures { result.now ≡ self.now.state.vtep.rows }
+        ensures value { result.now ≡ self.now.state.vtep.rows }
+        ensures settled { self.now.stopped ≡ false → IsSettled result.now }
     {
-        &self.vtep.rows
+        self.running.rows()
     }
 
     /// Whether there is a port of this name. Takes no memory.
     pub fn has_port(&self, port: &Name) -> bool
         ensures { result ≡ is_some (port_named self.now.state.vtep.rows port.now) }
     {
-        port_named(&self.vtep.rows, port).is_some()
+        has_port(self.rows(), port)
     }
 
     /// A step found no memory. Nothing more is claimed of the gateway.
@@ -111,93 +81,6 @@ impl Gateway {
         ensures { result ≡ self.now.stopped }
     {
         self.stopped
-    }
-
-    fn on_bytes(&mut self, session: u32, piece: &Bytes) -> Result<Answer, OutOfMemory>
-        ensures ok { IfOk result (λ a. on_bytes self.old.state session piece.now
-            ≡ record { gateway = self.new.state; answer = a }) }
-        ensures going { self.new.stopped ≡ self.old.stopped }
-    {
-        let mut framer = self.streams.take(session);
-        framer.feed(piece.as_slice())?;
-        let mut sends = List::new(self.alloc);
-        let failed = self.vtep.take_all(session, &mut framer, &mut sends)?;
-        self.streams.put(session, framer)?;
-        Ok(Answer {
-            sends,
-            failed,
-            refused: None,
-        })
-    }
-
-    fn on_hangup(&mut self, session: u32) -> Answer
-        ensures ok { on_hangup self.old.state session
-            ≡ record { gateway = self.new.state; answer = result } }
-        ensures going { self.new.stopped ≡ self.old.stopped }
-    {
-        if !self.streams.close(session) {
-            return refused(self.alloc, EventRefused::NoSession);
-        }
-        self.vtep.close_monitors(session);
-        nothing(self.alloc)
-    }
-
-    /// Keeps the rows after a change, where they break no rule, and tells the monitors of it.
-    fn change(&mut self, rows: Option<Rows>) -> Result<Answer, OutOfMemory>
-        ensures ok { IfOk result (λ a. changed self.old.state rows
-            ≡ record { gateway = self.new.state; answer = a }) }
-        ensures going { self.new.stopped ≡ self.old.stopped }
-    {
-        let Some(rows) = rows else {
-            return Ok(nothing(self.alloc));
-        };
-        let Ok(rows) = committed(rows)? else {
-            return Ok(nothing(self.alloc));
-        };
-        let mut sends = List::new(self.alloc);
-        self.vtep.adopt(rows, &mut sends)?;
-        Ok(Answer {
-            sends,
-            failed: None,
-            refused: None,
-        })
-    }
-
-    fn on_port(&mut self, name: &Name) -> Result<Answer, OutOfMemory>
-        ensures ok { IfOk result (λ a. on_port self.old.state name.now
-            ≡ record { gateway = self.new.state; answer = a }) }
-        ensures going { self.new.stopped ≡ self.old.stopped }
-    {
-        if let Some(why) = port_refusal(&self.vtep.rows, name) {
-            return Ok(refused(self.alloc, why));
-        }
-        let rows = with_port(self.alloc, &self.vtep.rows, name)?;
-        self.change(rows)
-    }
-
-    fn on_unport(&mut self, name: &Name) -> Result<Answer, OutOfMemory>
-        ensures ok { IfOk result (λ a. on_unport self.old.state name.now
-            ≡ record { gateway = self.new.state; answer = a }) }
-        ensures going { self.new.stopped ≡ self.old.stopped }
-    {
-        let Some(id) = port_named(&self.vtep.rows, name) else {
-            return Ok(refused(self.alloc, EventRefused::NoPort));
-        };
-        let rows = without_port(self.alloc, &self.vtep.rows, id)?;
-        self.change(rows)
-    }
-
-    fn answer(&mut self, event: &Event) -> Result<Answer, OutOfMemory>
-        ensures ok { IfOk result (λ a. step self.old.state event.now
-            ≡ record { gateway = self.new.state; answer = a }) }
-        ensures going { self.new.stopped ≡ self.old.stopped }
-    {
-        match event {
-            Event::Bytes { session, piece } => self.on_bytes(*session, piece),
-            Event::Hangup { session } => Ok(self.on_hangup(*session)),
-            Event::Port { name } => self.on_port(name),
-            Event::Unport { name } => self.on_unport(name),
-        }
     }
 
     /// Does what an event asks for, and gives what goes out.
@@ -213,12 +96,8 @@ impl Gateway {
         ensures going { OnOk result (self.new.stopped ≡ false) }
         ensures stopped { OnErr result (self.new.stopped ≡ true) }
     {
-        match self.answer(event) {
-            Ok(answer) => Ok(answer),
-            Err(OutOfMemory) => {
-                self.stopped = true;
-                Err(OutOfMemory)
-            }
-        }
+        let answer = self.running.answer(event);
+        self.stopped = answer.is_err();
+        answer
     }
 }

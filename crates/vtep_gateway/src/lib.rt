@@ -10,12 +10,14 @@ mod monitors;
 mod open_monitors;
 mod ports;
 mod replies;
+mod running;
 mod streams;
 mod vtep;
 
 pub use gateway::Gateway;
 pub use laws::{
-    failed_changes_nothing, names_are_values, refused_changes_nothing, unfinished_changes_nothing,
+    events_keep_settled, failed_changes_nothing, names_are_values, new_is_settled, ports_commit,
+    refused_changes_nothing, sessions_leave_the_rest, unfinished_changes_nothing,
     updates_are_notifications,
 };
 use rpc_framing::Framing;

@@ -1,20 +1,21 @@
 //! What a request does (RFC 7047, section 4.1).
 
-ghost use Rattle.std.specs.Prelude.{◌≡◌, ◌++◌, [], false, Ok, IfOk};
+ghost use Rattle.std.specs.Prelude.{◌≡◌, ◌++◌, [], false, unwrap_or, Ok, IfOk, OnOk};
 ghost use Rattle.transact_profile.specs.Meaning.{means};
 ghost use Rattle.transact_profile.specs.Transaction.{ops_in};
 ghost use Rattle.serde_json.specs.View.{view};
 ghost use Rattle.serde_json.specs.Written.{has_float};
-ghost use Rattle.vtep_gateway.specs.Methods.{method_of, in_database, databases, schema_in, transacted, transact_in, called, seen};
+ghost use Rattle.vtep_gateway.specs.Methods.{method_of, in_database, databases, schema_in, transacted, IsChange, transact_in, called, seen};
+ghost use Rattle.vtep_gateway.specs.Settled.{IsSettled};
 
 use crate::Outgoing;
-use crate::commit::committed;
+use crate::commit::{CommitFault, commit};
 use crate::vtep::Vtep;
 use serde_json::Value;
 use std::alloc::Global;
-use transact_profile::{finish, read_ops, transact};
+use transact_profile::{finish, read_ops, transact_on};
 use vtep_base::{List, OutOfMemory, Word};
-use vtep_rows::Rows;
+use vtep_rows::{Change, Database};
 
 /// The methods that are known.
 #[derive(Clone, Copy)]
@@ -75,32 +76,32 @@ fn schema_in(alloc: Global, params: &Value) -> Result<Result<Value, Word>, OutOf
     }
 }
 
-/// Runs a transaction. Gives its results, and the rows after it, unless it fails or these break a rule.
+/// Runs a transaction. Gives its results, and the rows that differ after it, unless it fails or they break a rule: then all is as
+/// it was.
 fn transacted(
     alloc: Global,
-    rows: &Rows,
+    database: &mut Database,
     params: &Value,
-) -> Result<(Value, Option<Rows>), OutOfMemory>
-    ensures value { IfOk result (λ t. transacted (means (ops_in (view params.now)) rows.now)
-        ≡ (view t.0, t.1)) }
+) -> Result<(Value, Option<Change>), OutOfMemory>
+    requires { IsSettled database.old.current }
+    ensures value { IfOk result (λ t. view t.0
+        ≡ (transacted (means (ops_in (view params.now)) database.old.current)).0) }
+    ensures rows { OnOk result (database.new.current ≡ unwrap_or (transacted
+        (means (ops_in (view params.now)) database.old.current)).1 database.old.current) }
+    ensures change { IfOk result (λ t. IsChange t.1 database.old.current (transacted
+        (means (ops_in (view params.now)) database.old.current)).1) }
     ensures plain { IfOk result (λ t. has_float (view t.0) ≡ false) }
 {
     let ops = read_ops(alloc, params)?;
-    let mut after = rows.copy(alloc)?;
-    let outcome = transact(alloc, &mut after, &ops)?;
+    database.begin();
+    let outcome = transact_on(alloc, database, &ops)?;
     if outcome.failed {
-        let results = finish(alloc, &outcome, None)?;
-        return Ok((results, None));
+        return Ok((finish(alloc, &outcome, None)?, None));
     }
-    match committed(after)? {
-        Ok(rows) => {
-            let results = finish(alloc, &outcome, None)?;
-            Ok((results, Some(rows)))
-        }
-        Err(rule) => {
-            let results = finish(alloc, &outcome, Some(rule))?;
-            Ok((results, None))
-        }
+    match commit(alloc, database) {
+        Ok(change) => Ok((finish(alloc, &outcome, None)?, Some(change))),
+        Err(CommitFault::Broken(rule)) => Ok((finish(alloc, &outcome, Some(rule))?, None)),
+        Err(CommitFault::OutOfMemory) => Err(OutOfMemory),
     }
 }
 
@@ -111,6 +112,7 @@ impl Vtep {
         params: &Value,
         sends: &mut List<Outgoing>,
     ) -> Result<Result<Value, Word>, OutOfMemory>
+        requires { IsSettled self.old.rows }
         ensures left { IfOk result (λ _. self.new
             ≡ (transact_in self.old (view params.now) (in_database (view params.now))).vtep) }
         ensures before { IfOk result
@@ -124,8 +126,10 @@ impl Vtep {
         if let Err(word) = in_database(params) {
             return Ok(Err(word));
         }
-        let (results, rows) = transacted(self.alloc, &self.rows, params)?;
-        self.keep(rows, sends)?;
+        let (results, change) = transacted(self.alloc, &mut self.database, params)?;
+        if let Some(change) = change {
+            self.monitors.tell(self.alloc, &change, sends)?;
+        }
         Ok(Ok(results))
     }
 
@@ -137,6 +141,7 @@ impl Vtep {
         params: Value,
         sends: &mut List<Outgoing>,
     ) -> Result<Result<Value, Word>, OutOfMemory>
+        requires settled { IsSettled self.old.rows }
         requires plain { has_float (view params) ≡ false }
         ensures left { IfOk result (λ _. self.new
             ≡ (called self.old session method (view params)).vtep) }

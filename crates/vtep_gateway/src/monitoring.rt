@@ -100,7 +100,12 @@ impl Vtep {
             (λ r. seen r ≡ (monitor_in self.old session (view params.now)).result) }
         ensures plain { IfOk result (λ r. IfOk r (λ v. has_float (view v) ≡ false)) }
     {
-        match monitor_for(self.alloc, &self.rows, self.monitors.of(session), params) {
+        match monitor_for(
+            self.alloc,
+            self.database.rows(),
+            self.monitors.of(session),
+            params,
+        ) {
             Ok((monitor, reply)) => {
                 self.monitors.add(session, monitor)?;
                 Ok(Ok(reply))

@@ -104,7 +104,8 @@ impl Monitors {
         self.by_session.iter()
     }
 
-    /// Adds the updates that a change of the rows makes, by session, then in the order of opening.
+    /// Adds the updates that a change of the rows makes, by session, then in the order of opening. Where nothing changed, no
+    /// monitor is looked at.
     pub(crate) fn tell(
         &self,
         alloc: Global,
@@ -114,6 +115,9 @@ impl Monitors {
         ensures { (old : AllRows) → (new : AllRows) → change.now ≡ changes old new
             → OnOk result (sends.new ≡ sends.old ++ told_all old new self.now) }
     {
+        if change.is_empty() {
+            return Ok(());
+        }
         'sessions: for (session, monitors) in self.iter() {
             tell_each(alloc, *session, monitors.as_slice(), change, sends)?;
         }

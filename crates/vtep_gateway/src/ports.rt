@@ -1,28 +1,72 @@
 //! The ports of a gateway.
 
-ghost use Rattle.std.specs.Prelude.{◌≡◌, ◌<◌, ◌∷◌, [], nat_le, length, None, IfOk, IfSome};
+ghost use Rattle.std.specs.Prelude.{◌≡◌, ◌∷◌, [], nat_le, length, true, is_some, None, Some, Err, IfOk, IfErr, IfSome, OnOk};
+ghost use Rattle.vtep_base.specs.Texts.{is_name};
+ghost use Rattle.vtep_base.specs.Answers.{OrMemory};
 ghost use Rattle.ovsdb_values.specs.Sets.{one};
 ghost use Rattle.ovsdb_values.specs.declared.atoms.Atom.TheVariants.{Id, Text};
 ghost use Rattle.vtep_schema.specs.declared.Table.TheVariants.{PhysicalPort, PhysicalSwitch};
-ghost use Rattle.vtep_schema.specs.declared.Column.TheVariants.{PortName};
-ghost use Rattle.vtep_rows.specs.Rows.{last_number};
-ghost use Rattle.vtep_gateway.specs.Ports.{is_text, port_named, port_refusal, changed_ports, changed_switch, with_ports, port_row, with_port, without_port};
+ghost use Rattle.vtep_schema.specs.declared.Column.TheVariants.{PortName, SwitchPorts};
+ghost use Rattle.vtep_rows.specs.Row.{allowed, value_at};
+ghost use Rattle.vtep_gateway.specs.declared.EventRefused.TheVariants.{NoPort};
+ghost use Rattle.vtep_rows.specs.declared.row.RowFault.TheVariants as row_fault;
+ghost use Rattle.vtep_gateway.specs.CommitFaults.{refusal_of};
+ghost use Rattle.vtep_gateway.specs.Ports.{is_text, port_named, is_full, port_refusal, changed_ports, changed_switch, Takes, with_ports, port_row, with_port, without_port};
+ghost use Rattle.vtep_gateway.specs.Settled.{IsSettled, own_address, address_in};
 
 use crate::EventRefused;
 use ovsdb_values::{Atom, AtomSet, Datum};
 use std::alloc::Global;
-use vtep_base::{List, Name, OutOfMemory, RowId, Txt};
-use vtep_rows::{Ids, Row, RowFault, Rows, RowsFault};
+use vtep_base::{Ipv4, List, Name, OutOfMemory, RowId, Txt};
+use vtep_rows::{Database, Ids, Row, RowFault, Rows, RowsFault};
 use vtep_schema::{Column, Table, most};
 
-/// The greatest number of a row.
-const LAST_NUMBER: u64 = (1 << 62) - 1;
+/// Why there is no port more, or less.
+#[derive(Clone, Copy, Drop)]
+pub(crate) enum PortFault {
+    OutOfMemory,
+    /// The event is refused.
+    Refused(EventRefused),
+}
+
+impl From<OutOfMemory> for PortFault {
+    ghost use Rattle.std.specs.Prelude.{◌≡◌};
+    ghost use Rattle.vtep_gateway.specs.declared.ports.PortFault.TheVariants as fault;
+
+    ghost from_gives = { λ _ e. e ≡ fault.OutOfMemory };
+
+    fn from(_error: OutOfMemory) -> PortFault {
+        PortFault::OutOfMemory
+    }
+}
 
 /// What a port does at its switch.
 #[derive(Clone, Copy)]
 pub(crate) enum Change {
     Joins,
     Leaves,
+}
+
+/// The name as the atom that a row holds.
+fn name_atom(alloc: Global, name: &Name) -> Result<Atom, OutOfMemory>
+    ensures atom { IfOk result (λ atom. atom ≡ Text name.now) }
+    ensures form { is_name name.now ≡ true }
+{
+    let text = String::from_utf8_lossy(alloc, name.as_slice())?;
+    Ok(Atom::Text(Txt::from_string(text)))
+}
+
+/// The identifier of the port of this name: a look-up.
+pub(crate) fn port_named(
+    alloc: Global,
+    rows: &Rows,
+    name: &Name,
+) -> Result<Option<RowId>, OutOfMemory>
+    ensures id { IfOk result (λ id. id ≡ port_named rows.now name.now) }
+    ensures form { is_name name.now ≡ true }
+{
+    let key = [name_atom(alloc, name)?];
+    Ok(rows.keyed(Table::PhysicalPort, &key))
 }
 
 /// The datum is this one text.
@@ -38,18 +82,47 @@ fn is_text(datum: &Datum, name: &Name) -> bool
     }
 }
 
-/// The identifier of the port of this name. Takes no memory.
-pub(crate) fn port_named(rows: &Rows, name: &Name) -> Option<RowId>
-    ensures { result ≡ port_named rows.now name.now }
+/// Whether there is a port of this name. Takes no memory, and looks at each port, of which there are at most 64.
+pub(crate) fn has_port(rows: &Rows, name: &Name) -> bool
+    ensures { result ≡ is_some (port_named rows.now name.now) }
 {
     'ports: for id in rows.ids(Table::PhysicalPort) {
         if let Some(row) = rows.get(Table::PhysicalPort, id) {
             if is_text(row.value(Column::PortName), name) {
-                return Some(id);
+                return true;
             }
         }
     }
-    None
+    false
+}
+
+/// The tunnel address that the row of Physical_Switch has, or 0.0.0.0. Takes no memory.
+pub(crate) fn own_address(rows: &Rows) -> Ipv4
+    ensures { result ≡ own_address rows.now }
+{
+    let Some(id) = rows.ids(Table::PhysicalSwitch).next() else {
+        return Ipv4::from_bits(0);
+    };
+    match rows.get(Table::PhysicalSwitch, id) {
+        Some(row) => address_in(row.value(Column::SwitchTunnelIps)),
+        None => Ipv4::from_bits(0),
+    }
+}
+
+/// The address that is the one text of a set, or 0.0.0.0.
+fn address_in(datum: &Datum) -> Ipv4
+    ensures { result ≡ address_in datum.now }
+{
+    let Datum::Set(set) = datum else {
+        return Ipv4::from_bits(0);
+    };
+    match set.as_slice() {
+        [Atom::Text(text)] => match Ipv4::parse(text.as_slice()) {
+            Ok(ip) => ip,
+            Err(_) => Ipv4::from_bits(0),
+        },
+        _ => Ipv4::from_bits(0),
+    }
 }
 
 /// As many identifiers are left, at least.
@@ -66,25 +139,25 @@ fn has_at_least(least: u64, ids: Ids<'_>) -> bool
     missing == 0
 }
 
-/// Why there is to be no port of this name.
-pub(crate) fn port_refusal(rows: &Rows, name: &Name) -> Option<EventRefused>
-    ensures value { result ≡ port_refusal rows.now name.now }
-    ensures room { result ≡ None → rows.now.counter < last_number }
+/// As many ports are there as there may be.
+fn is_full(rows: &Rows) -> bool
+    ensures { result ≡ is_full rows.now }
 {
-    if port_named(rows, name).is_some() {
-        return Some(EventRefused::Repeated);
-    }
-    let full = has_at_least(most(Table::PhysicalPort), rows.ids(Table::PhysicalPort));
-    if full || rows.counter() == LAST_NUMBER {
-        return Some(EventRefused::Ports);
-    }
-    None
+    has_at_least(most(Table::PhysicalPort), rows.ids(Table::PhysicalPort))
 }
 
 fn one(alloc: Global, atom: Atom) -> Result<Datum, OutOfMemory>
     ensures { IfOk result (λ datum. datum ≡ one atom) }
 {
     Ok(Datum::Set(AtomSet::one(alloc, atom)?))
+}
+
+/// A row of values that make one, which fails for want of memory alone.
+fn made(row: Result<Row, RowFault>) -> Result<Row, OutOfMemory>
+    requires { row ≡ Err row_fault.Values → ⊥ }
+    ensures { IfOk result (λ r. row ≡ Ok r) }
+{
+    row.map_err(|_| OutOfMemory)
 }
 
 fn changed_ports(
@@ -108,95 +181,101 @@ fn changed_switch(
     change: Change,
     id: RowId,
     switch: &Row,
-) -> Result<Option<Row>, OutOfMemory>
-    requires { switch.now.table ≡ PhysicalSwitch }
-    ensures value { IfOk result (λ row. row ≡ changed_switch change id switch.now) }
-    ensures table { IfOk result (λ row. IfSome row (λ row. row.table ≡ PhysicalSwitch)) }
+) -> Result<Row, OutOfMemory>
+    requires table { switch.now.table ≡ PhysicalSwitch }
+    requires fits { allowed SwitchPorts (changed_ports change id (value_at switch.now SwitchPorts))
+        ≡ true }
+    ensures { IfOk result (λ row. row ≡ changed_switch change id switch.now) }
 {
     let ports = changed_ports(alloc, change, id, switch.value(Column::SwitchPorts))?;
-    match switch.with(alloc, Column::SwitchPorts, ports) {
-        Ok(row) => Ok(Some(row)),
-        Err(RowFault::Values) => Ok(None),
-        Err(RowFault::OutOfMemory) => Err(OutOfMemory),
-    }
+    made(switch.with(alloc, Column::SwitchPorts, ports))
 }
 
-/// The rows, in which a port joins the switch or leaves it.
-fn with_ports(
+/// A port joins the switch, or leaves it.
+fn change_ports(
     alloc: Global,
-    rows: Rows,
+    database: &mut Database,
     change: Change,
     id: RowId,
-) -> Result<Option<Rows>, OutOfMemory>
-    ensures { IfOk result (λ o. o ≡ with_ports rows change id) }
+) -> Result<(), OutOfMemory>
+    requires { Takes change id database.old.current }
+    ensures { OnOk result (database.new
+        ≡ record database.old { current = with_ports database.old.current change id }) }
 {
-    let Some(switch) = rows.ids(Table::PhysicalSwitch).next() else {
-        return Ok(None);
-    };
-    let Some(row) = rows.get(Table::PhysicalSwitch, switch) else {
-        return Ok(None);
-    };
-    let Some(row) = changed_switch(alloc, change, id, row)? else {
-        return Ok(None);
-    };
-    let mut rows = rows;
-    rows.replace(Table::PhysicalSwitch, switch, row)?;
-    Ok(Some(rows))
+    let rows = database.rows();
+    let switch = rows.ids(Table::PhysicalSwitch).next().unwrap();
+    let row = rows.get(Table::PhysicalSwitch, switch).unwrap();
+    let row = changed_switch(alloc, change, id, row)?;
+    database.replace(Table::PhysicalSwitch, switch, row)
 }
 
 /// What is given of a port of this name.
 fn port_values(alloc: Global, name: &Name) -> Result<List<(Column, Datum)>, OutOfMemory>
-    ensures { IfOk result (λ values. values ≡ (PortName, one (Text name.now)) ∷ []) }
+    ensures values { IfOk result (λ values. values ≡ (PortName, one (Text name.now)) ∷ []) }
+    ensures form { is_name name.now ≡ true }
 {
-    let text = String::from_utf8_lossy(alloc, name.as_slice())?;
-    let name = one(alloc, Atom::Text(Txt::from_string(text)))?;
+    let name = one(alloc, name_atom(alloc, name)?)?;
     let mut values = List::new(alloc);
     values.push((Column::PortName, name))?;
     Ok(values)
 }
 
 /// The row of a port of this name.
-fn port_row(alloc: Global, name: &Name) -> Result<Option<Row>, OutOfMemory>
-    ensures value { IfOk result (λ row. row ≡ port_row name.now) }
-    ensures table { IfOk result (λ row. IfSome row (λ row. row.table ≡ PhysicalPort)) }
+fn port_row(alloc: Global, name: &Name) -> Result<Row, OutOfMemory>
+    ensures { IfOk result (λ row. row ≡ port_row name.now) }
 {
     let values = port_values(alloc, name)?;
-    match Row::filled(alloc, Table::PhysicalPort, values) {
-        Ok(row) => Ok(Some(row)),
-        Err(RowFault::Values) => Ok(None),
-        Err(RowFault::OutOfMemory) => Err(OutOfMemory),
+    made(Row::filled(alloc, Table::PhysicalPort, values))
+}
+
+/// One more port: its row, which the row of the switch names.
+///
+/// `Repeated` comes where a port has this name, `Ports` where as many are there as there may be or no row number is left. After
+/// a refusal all is as it was.
+pub(crate) fn add_port(alloc: Global, database: &mut Database, name: &Name) -> Result<(), PortFault>
+    requires { IsSettled database.old.current }
+    ensures form { is_name name.now ≡ true }
+    ensures free { OnOk result (port_refusal database.old.current name.now ≡ None) }
+    ensures added { OnOk result (database.new
+        ≡ record database.old { current = with_port database.old.current name.now }) }
+    ensures refused { IfErr result (λ fault. OrMemory (refusal_of fault)
+        (λ why. (port_refusal database.old.current name.now ≡ Some why)
+        × (database.new ≡ database.old))) }
+{
+    if port_named(alloc, database.rows(), name)?.is_some() {
+        return Err(PortFault::Refused(EventRefused::Repeated));
+    }
+    if is_full(database.rows()) {
+        return Err(PortFault::Refused(EventRefused::Ports));
+    }
+    let row = port_row(alloc, name)?;
+    match database.insert(Table::PhysicalPort, row) {
+        Ok(id) => Ok(change_ports(alloc, database, Change::Joins, id)?),
+        Err(RowsFault::Spent) => Err(PortFault::Refused(EventRefused::Ports)),
+        Err(RowsFault::OutOfMemory) => Err(PortFault::OutOfMemory),
     }
 }
 
-/// The rows with one more port.
-pub(crate) fn with_port(
+/// The port of this name is taken away: its row, and its name in the row of the switch.
+///
+/// `NoPort` comes where there is none. Then all is as it was.
+pub(crate) fn remove_port(
     alloc: Global,
-    rows: &Rows,
+    database: &mut Database,
     name: &Name,
-) -> Result<Option<Rows>, OutOfMemory>
-    requires { rows.now.counter < last_number }
-    ensures { IfOk result (λ o. o ≡ with_port rows.now name.now) }
+) -> Result<(), PortFault>
+    requires { IsSettled database.old.current }
+    ensures removed { OnOk result (IfSome (port_named database.old.current name.now)
+        (λ id. database.new
+        ≡ record database.old { current = without_port database.old.current id })) }
+    ensures found { OnOk result (is_some (port_named database.old.current name.now) ≡ true) }
+    ensures refused { IfErr result (λ fault. OrMemory (refusal_of fault)
+        (λ why. (why ≡ NoPort) × (port_named database.old.current name.now ≡ None)
+        × (database.new ≡ database.old))) }
 {
-    let Some(row) = port_row(alloc, name)? else {
-        return Ok(None);
+    let Some(id) = port_named(alloc, database.rows(), name)? else {
+        return Err(PortFault::Refused(EventRefused::NoPort));
     };
-    let mut rows = rows.copy(alloc)?;
-    match rows.insert(Table::PhysicalPort, row) {
-        Ok(id) => with_ports(alloc, rows, Change::Joins, id),
-        Err(RowsFault::Spent) => unreachable!(),
-        Err(RowsFault::OutOfMemory) => Err(OutOfMemory),
-    }
-}
-
-/// The rows with one port less.
-pub(crate) fn without_port(
-    alloc: Global,
-    rows: &Rows,
-    id: RowId,
-) -> Result<Option<Rows>, OutOfMemory>
-    ensures { IfOk result (λ o. o ≡ without_port rows.now id) }
-{
-    let mut rows = rows.copy(alloc)?;
-    let _port = rows.remove(Table::PhysicalPort, id);
-    with_ports(alloc, rows, Change::Leaves, id)
+    database.remove(Table::PhysicalPort, id)?;
+    Ok(change_ports(alloc, database, Change::Leaves, id)?)
 }

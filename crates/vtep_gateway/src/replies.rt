@@ -8,6 +8,7 @@ ghost use Rattle.rpc_framing.specs.Said.{said};
 ghost use Rattle.rpc_framing.specs.Written.{message_json};
 ghost use Rattle.rpc_framing.specs.Pieces.{come};
 ghost use Rattle.vtep_gateway.specs.Methods.{seen};
+ghost use Rattle.vtep_gateway.specs.Settled.{IsSettled};
 ghost use Rattle.vtep_gateway.specs.Sessions.{response, outgoing, take, take_all};
 
 use crate::Outgoing;
@@ -79,7 +80,9 @@ impl Vtep {
         message: Message,
         sends: &mut List<Outgoing>,
     ) -> Result<(), OutOfMemory>
+        requires settled { IsSettled self.old.rows }
         requires plain { has_float (message_json (said message)) ≡ false }
+        ensures settled { OnOk result (IsSettled self.new.rows) }
         ensures left { OnOk result (self.new ≡ (take self.old session (said message)).vtep) }
         ensures sends { OnOk result (sends.new ≡ sends.old
             ++ (take self.old session (said message)).sends) }
@@ -98,6 +101,8 @@ impl Vtep {
         framer: &mut Framer,
         sends: &mut List<Outgoing>,
     ) -> Result<Option<Framing>, OutOfMemory>
+        requires settled { IsSettled self.old.rows }
+        ensures settled { OnOk result (IsSettled self.new.rows) }
         ensures left { IfOk result (λ _. self.new
             ≡ (take_all self.old session (come framer.old).messages).vtep) }
         ensures sends { IfOk result (λ _. sends.new ≡ sends.old

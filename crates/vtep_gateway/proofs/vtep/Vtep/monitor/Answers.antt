@@ -6,6 +6,6 @@ use Rattle.vtep_gateway.proofs.vtep.Vtep.monitor.Goals as goal
 
 pub returns-in_ok-add-in-Ok-clause-left : goal.returns-in_ok-add-in-Ok-clause-left
 returns-in_ok-add-in-Ok-clause-left c =
-    opened (record { name = c.self.inside.name; ip = c.self.inside.ip; rows = c.self.inside.rows; monitors = c.self.inside.monitors }) c.args.session (view c.args.params.now) c.of.result.now c.in-Ok.monitor c.add.new.self
+    opened (record { name = c.self.inside.name; rows = c.self.inside.database.current; monitors = c.self.inside.monitors }) c.args.session (view c.args.params.now) c.of.result.now c.in-Ok.monitor c.add.new.self
     c.of.ensures c.in-Ok.ensures.ok c.in_ok-add-in-Ok.ensures
     ∙ ap (λ v. (monitor_in v c.args.session (view c.args.params.now)).vtep) c.self.view_is
