@@ -15,16 +15,17 @@ use Rattle.vtep_schema.specs.declared.Column.{Column}
 use Rattle.vtep_schema.specs.Tables.{same_column, table_rule, column_named, column_line, columns_of, column_rule, named_in, belongs, written_by_sessions}
 use Rattle.vtep_schema.specs.Orders.{column_total}
 use Rattle.vtep_rows.proofs.Entries.{both}
+use Rattle.vtep_base.specs.Maps as maps
 use Rattle.transact_profile.specs.declared.known.Known.{Known}
+use Rattle.transact_profile.specs.declared.known.Known.TheVariants.{OneOf}
 use Rattle.transact_profile.specs.declared.operations.Op.{Op}
 use Rattle.transact_profile.specs.declared.operations.Op.TheVariants as op
-use Rattle.transact_profile.specs.declared.operations.Until.{Until}
 use Rattle.transact_profile.specs.declared.operations.Mutation.{Mutation}
 use Rattle.transact_profile.specs.Refusing.{Reading, ◌>>?◌, given, needs, by_reading, each_from}
 use Rattle.transact_profile.specs.Members.{member, optional, items_that, is_text, is_object, is_triple, triple_of, members_in, until_of, number_of}
 use Rattle.transact_profile.specs.Values.{column_value, mutator_named, takes_mutator, mutation_value}
-use Rattle.transact_profile.specs.Operations.{Row, Earlier, table_read, may_write, row_known, row_permitted, triple_permitted, triples_known, triples_permitted, columns_known, objects_known, cell, cells, conditions, mutation, mutations, mutation_in, is_new, is_whole_row, none_fixed, none_mutated, whole_insert, whole_update, whole_mutate, chosen, waited_fields, waited_rows, insert_into, select_from, update_in, mutate_in, delete_from, wait_in, insert_read, select_read, update_read, mutate_read, delete_read, wait_read, named_op, op_read}
-use Rattle.transact_profile.specs.Transaction.{with_name, front_from, ops_in, known_names, operations}
+use Rattle.transact_profile.specs.Operations.{Row, Earlier, table_read, may_write, row_known, row_permitted, triple_permitted, triples_known, triples_permitted, columns_known, objects_known, cell, cells, conditions, mutation, mutations, mutation_in, is_new, is_whole_row, none_fixed, none_mutated, chosen, waited_fields, waited_rows, insert_read, select_read, update_read, mutate_read, delete_read, wait_read, named_op, op_read}
+use Rattle.transact_profile.specs.Transaction.{with_name_of, read_from, ops_in, known_insertions, operations}
 use Rattle.vtep_gateway.specs.Settled.{is_written}
 
 -- what the reading gives passes
@@ -131,84 +132,61 @@ is_permitted _ = true
 abbrev pub Permits : Op → Type 0
 Permits o = is_permitted o ≡ true
 
-insert_permits : (known : Known) (earlier : Earlier) (t : Table) (row : Row) (name : Option Bytes) → Gives Permits (insert_into known earlier t row name)
-insert_permits known earlier t row name =
-    need_gives Permits word.UnknownColumn (row_known t row) _ (λ _.
-    need_gives Permits word.PermissionError ((table_rule t).open_to_sessions && row_permitted t row) _ (λ h.
-    need_gives Permits word.DuplicateUuidName (is_new earlier name) _ (λ _.
-    then_gives Permits (cells known t row) (whole_insert t name) (λ vs _.
-    need_gives Permits word.ConstraintViolation (is_whole_row t vs) (Ok (op.Insert t vs name)) (λ _. first_so _ _ h)))))
-
-select_permits : (known : Known) (t : Table) (ts : List Data) (columns : Option (List Data)) → Gives Permits (select_from known t ts columns)
-select_permits known t ts columns =
-    need_gives Permits word.UnknownColumn (triples_known t ts && columns_known t columns) _ (λ _.
-    then_gives Permits (conditions known t ts) _ (λ cs _. then_gives Permits (chosen t columns) (λ fs. Ok (op.Select t cs fs)) (λ fs _. refl)))
-
-update_permits : (known : Known) (t : Table) (ts : List Data) (row : Row) → Gives Permits (update_in known t ts row)
-update_permits known t ts row =
-    need_gives Permits word.UnknownColumn (row_known t row && triples_known t ts) _ (λ _.
-    need_gives Permits word.PermissionError (row_permitted t row) _ (λ h.
-    then_gives Permits (cells known t row) _ (λ values e.
-    then_gives Permits (conditions known t ts) (whole_update t values) (λ cs _.
-    need_gives Permits word.ConstraintViolation (none_fixed values) (Ok (op.Update t cs values)) (λ _. of_ok (cells known t row) values e (cells_give known t row h))))))
-  where
-    of_ok : (r : Reading (List (Column × Datum))) (vs : List (Column × Datum)) → r ≡ Ok vs → Gives (λ vs. list_all (λ v. is_written t v.0) vs ≡ true) r → list_all (λ v. is_written t v.0) vs ≡ true
-    of_ok r vs e h = subst (Gives (λ vs. list_all (λ v. is_written t v.0) vs ≡ true)) e h
-
-mutate_permits : (known : Known) (t : Table) (ts us : List Data) → Gives Permits (mutate_in known t ts us)
-mutate_permits known t ts us =
-    need_gives Permits word.UnknownColumn (triples_known t ts && triples_known t us) _ (λ _.
-    need_gives Permits word.PermissionError (triples_permitted t us) _ (λ h.
-    then_gives Permits (conditions known t ts) _ (λ cs _.
-    then_gives Permits (mutations known t us) (whole_mutate t cs) (λ ms e.
-    need_gives Permits word.ConstraintViolation (none_mutated ms) (Ok (op.Mutate t cs ms)) (λ _. subst (Gives (λ ms. list_all (λ m. is_written t m.column) ms ≡ true)) e (mutations_give known t us h))))))
-
-delete_permits : (known : Known) (t : Table) (ts : List Data) → Gives Permits (delete_from known t ts)
-delete_permits known t ts =
-    need_gives Permits word.UnknownColumn (triples_known t ts) _ (λ _.
-    need_gives Permits word.PermissionError (table_rule t).open_to_sessions _ (λ h.
-    then_gives Permits (conditions known t ts) (λ cs. Ok (op.Delete t cs)) (λ cs _. h)))
-
-wait_permits : (known : Known) (t : Table) (ts : List Data) (columns : Option (List Data)) (until : Until) (rows : List Data) → Gives Permits (wait_in known t ts columns until rows)
-wait_permits known t ts columns until rows =
-    need_gives Permits word.UnknownColumn (triples_known t ts && columns_known t columns && objects_known t rows) _ (λ _.
-    then_gives Permits (conditions known t ts) _ (λ cs _.
-    then_gives Permits (chosen t columns) _ (λ fs _.
-    then_gives Permits (waited_rows known t (waited_fields t fs) rows) (λ waited. Ok (op.Wait t cs fs until waited)) (λ waited _. refl))))
-
 insert_reads : (known : Known) (earlier : Earlier) (d : Data) → Gives Permits (insert_read known earlier d)
 insert_reads known earlier d =
     then_gives Permits (member as_str (codes "table") d) _ (λ table _.
     then_gives Permits (member members_in (codes "row") d) _ (λ row _.
     then_gives Permits (optional as_str (codes "uuid-name") d) _ (λ name _.
-    then_gives Permits (table_read table) _ (λ t _. insert_permits known earlier t row name))))
+    then_gives Permits (table_read table) _ (λ t _.
+    need_gives Permits word.UnknownColumn (row_known t row) _ (λ _.
+    need_gives Permits word.PermissionError ((table_rule t).open_to_sessions && row_permitted t row) _ (λ h.
+    need_gives Permits word.DuplicateUuidName (is_new earlier name) _ (λ _.
+    then_gives Permits (cells known t row) _ (λ vs _.
+    need_gives Permits word.ConstraintViolation (is_whole_row t vs) (Ok (op.Insert t vs name)) (λ _. first_so _ _ h)))))))))
 
 select_reads : (known : Known) (d : Data) → Gives Permits (select_read known d)
 select_reads known d =
     then_gives Permits (member as_str (codes "table") d) _ (λ table _.
     then_gives Permits (member (items_that is_triple) (codes "where") d) _ (λ ts _.
     then_gives Permits (optional (items_that is_text) (codes "columns") d) _ (λ columns _.
-    then_gives Permits (table_read table) _ (λ t _. select_permits known t ts columns))))
+    then_gives Permits (table_read table) _ (λ t _.
+    need_gives Permits word.UnknownColumn (triples_known t ts && columns_known t columns) _ (λ _.
+    then_gives Permits (conditions known t ts) _ (λ cs _. then_gives Permits (chosen t columns) (λ fs. Ok (op.Select t cs fs)) (λ fs _. refl)))))))
 
 update_reads : (known : Known) (d : Data) → Gives Permits (update_read known d)
 update_reads known d =
     then_gives Permits (member as_str (codes "table") d) _ (λ table _.
     then_gives Permits (member (items_that is_triple) (codes "where") d) _ (λ ts _.
     then_gives Permits (member members_in (codes "row") d) _ (λ row _.
-    then_gives Permits (table_read table) _ (λ t _. update_permits known t ts row))))
+    then_gives Permits (table_read table) _ (λ t _.
+    need_gives Permits word.UnknownColumn (row_known t row && triples_known t ts) _ (λ _.
+    need_gives Permits word.PermissionError (row_permitted t row) _ (λ h.
+    then_gives Permits (cells known t row) _ (λ values e.
+    then_gives Permits (conditions known t ts) _ (λ cs _.
+    need_gives Permits word.ConstraintViolation (none_fixed values) (Ok (op.Update t cs values))
+    (λ _. subst (Gives (λ vs. list_all (λ v. is_written t v.0) vs ≡ true)) e (cells_give known t row h))))))))))
 
 mutate_reads : (known : Known) (d : Data) → Gives Permits (mutate_read known d)
 mutate_reads known d =
     then_gives Permits (member as_str (codes "table") d) _ (λ table _.
     then_gives Permits (member (items_that is_triple) (codes "where") d) _ (λ ts _.
     then_gives Permits (member (items_that is_triple) (codes "mutations") d) _ (λ us _.
-    then_gives Permits (table_read table) _ (λ t _. mutate_permits known t ts us))))
+    then_gives Permits (table_read table) _ (λ t _.
+    need_gives Permits word.UnknownColumn (triples_known t ts && triples_known t us) _ (λ _.
+    need_gives Permits word.PermissionError (triples_permitted t us) _ (λ h.
+    then_gives Permits (conditions known t ts) _ (λ cs _.
+    then_gives Permits (mutations known t us) _ (λ ms e.
+    need_gives Permits word.ConstraintViolation (none_mutated ms) (Ok (op.Mutate t cs ms))
+    (λ _. subst (Gives (λ ms. list_all (λ m. is_written t m.column) ms ≡ true)) e (mutations_give known t us h))))))))))
 
 delete_reads : (known : Known) (d : Data) → Gives Permits (delete_read known d)
 delete_reads known d =
     then_gives Permits (member as_str (codes "table") d) _ (λ table _.
     then_gives Permits (member (items_that is_triple) (codes "where") d) _ (λ ts _.
-    then_gives Permits (table_read table) _ (λ t _. delete_permits known t ts)))
+    then_gives Permits (table_read table) _ (λ t _.
+    need_gives Permits word.UnknownColumn (triples_known t ts) _ (λ _.
+    need_gives Permits word.PermissionError (table_rule t).open_to_sessions _ (λ h.
+    then_gives Permits (conditions known t ts) (λ cs. Ok (op.Delete t cs)) (λ cs _. h))))))
 
 wait_reads : (known : Known) (d : Data) → Gives Permits (wait_read known d)
 wait_reads known d =
@@ -218,7 +196,11 @@ wait_reads known d =
     then_gives Permits (member until_of (codes "until") d) _ (λ until _.
     then_gives Permits (member (items_that is_object) (codes "rows") d) _ (λ rows _.
     then_gives Permits (optional number_of (codes "timeout") d) _ (λ timeout _.
-    then_gives Permits (table_read table) _ (λ t _. wait_permits known t ts columns until rows)))))))
+    then_gives Permits (table_read table) _ (λ t _.
+    need_gives Permits word.UnknownColumn (triples_known t ts && columns_known t columns && objects_known t rows) _ (λ _.
+    then_gives Permits (conditions known t ts) _ (λ cs _.
+    then_gives Permits (chosen t columns) _ (λ fs _.
+    then_gives Permits (waited_rows known t (waited_fields t fs) rows) (λ waited. Ok (op.Wait t cs fs until waited)) (λ waited _. refl)))))))))))
 
 named_permits : (known : Known) (earlier : Earlier) (name : Bytes) (d : Data) → Gives Permits (named_op known earlier name d)
 named_permits known earlier name d =
@@ -242,12 +224,12 @@ end_passes : (p : Op → Bool) (os : List Op) (o : Op) → list_all p os ≡ tru
 end_passes p [] o h g = both (p o) true g refl
 end_passes p (x ∷ os) o h g = both (p x) _ (first_so (p x) (list_all p os) h) (end_passes p os o (second_so (p x) (list_all p os) h) g)
 
-front_permits : (known : Known) (earlier : Earlier) (done : List Op) (i : ℕ) (ds : List Data) → list_all is_permitted done ≡ true → list_all is_permitted (front_from known earlier done i ds).ops ≡ true
-front_permits known earlier done i [] h = h
-front_permits known earlier done i (d ∷ ds) h =
-    by_gives Permits (λ front. list_all is_permitted front.ops ≡ true) (op_read known earlier d) (λ w. record { ops = done; fault = Some (record { index = i; word = w }) })
-    (λ o. front_from known (with_name earlier o) (done ++ o ∷ []) (i + 1) ds) (op_permits known earlier d) (λ w. h)
-    (λ o permitted. front_permits known (with_name earlier o) (done ++ o ∷ []) (i + 1) ds (end_passes is_permitted done o h permitted))
+all_permitted : (known : Known) (earlier : Earlier) (done : List Op) (i : ℕ) (ds : List Data) → list_all is_permitted done ≡ true → list_all is_permitted (read_from known earlier done i ds).ops ≡ true
+all_permitted known earlier done i [] h = h
+all_permitted known earlier done i (d ∷ ds) h =
+    by_gives Permits (λ read. list_all is_permitted read.ops ≡ true) (op_read known earlier d) (λ w. record { ops = done; fault = Some (record { index = i; word = w }) })
+    (λ o. read_from known (with_name_of earlier o) (done ++ o ∷ []) (i + 1) ds) (op_permits known earlier d) (λ w. h)
+    (λ o permitted. all_permitted known (with_name_of earlier o) (done ++ o ∷ []) (i + 1) ds (end_passes is_permitted done o h permitted))
 
 pub ops_permitted : (params : Data) → list_all is_permitted (ops_in params).ops ≡ true
-ops_permitted params = front_permits (record { every = false; names = known_names (operations params) }) [] [] 0 (operations params) refl
+ops_permitted params = all_permitted (OneOf (known_insertions (operations params)).taken) maps.empty [] 0 (operations params) refl
