@@ -15,3 +15,4 @@ pub mod JoinLaws
 pub mod FactLaws
 pub mod Once
 pub mod Told
+pub mod Buts

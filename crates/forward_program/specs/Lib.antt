@@ -5,3 +5,6 @@ pub mod Spots
 pub mod Shown
 pub mod Joins
 pub mod Inserts
+pub mod Hop
+pub mod Hops
+pub mod HopIs

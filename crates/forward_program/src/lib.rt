@@ -4,6 +4,8 @@
 mod facts;
 mod fib;
 mod held;
+mod hop;
+mod hops;
 mod laws;
 mod looks;
 mod readings;
@@ -12,5 +14,6 @@ mod spots;
 pub use facts::{Fact, Place};
 pub use fib::Fib;
 pub use held::{Few, Held, Lists};
+pub use hops::{Hops, Origin, Outcome};
 pub use laws::facts_are_built;
 pub use spots::{Part, Spot};

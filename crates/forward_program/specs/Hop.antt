@@ -1,0 +1,117 @@
+-- Where a frame goes that entered at a port or came out of a tunnel.
+use Rattle.std.specs.Prelude.{ℕ, Bool, not, ◌&&◌, ◌==◌, if◌then◌else◌, List, [], ◌∷◌, map, filter, filter_map, take, drop, Option, Some, None, option_map, unwrap_or}
+use Rattle.std.specs.BTreeSet.{insert_key}
+use Rattle.vtep_base.specs.Reading.{Bytes, same_bytes}
+use Rattle.vtep_base.specs.Addresses.{be, is_group}
+use Rattle.vlan_bindings.specs.Places.{place_cmp}
+use Rattle.vtep_rows.specs.Row.{first}
+use Rattle.forward_program.specs.declared.facts.Fact.{Fact}
+use Rattle.forward_program.specs.declared.facts.Fact.TheVariants as fact
+use Rattle.forward_program.specs.declared.facts.Place.{Place}
+use Rattle.forward_program.specs.declared.facts.Place.TheVariants.{Here, There}
+use Rattle.forward_program.specs.declared.hops.Origin.{Origin}
+use Rattle.forward_program.specs.declared.hops.Origin.TheVariants as origin
+use Rattle.forward_program.specs.declared.hops.Outcome.{Outcome}
+use Rattle.forward_program.specs.declared.hops.Outcome.TheVariants.{Done, Unbound, NoVni}
+use Rattle.forward_program.specs.Spots.{Entries}
+use Rattle.forward_program.specs.Joins.{Port, bound_at, network_at, vni_at, place_at, flood_at, members_at}
+
+-- the addresses of a frame without tag
+abbrev pub destination : Bytes → ℕ
+destination inner = be (take 6 inner)
+
+abbrev pub source : Bytes → ℕ
+source inner = be (take 6 (drop 6 inner))
+
+-- what a forwarding state says
+pub record Ways : Type 0 where
+  pub bound : Port → Option ℕ  -- the switch of a VLAN of a port
+  pub network : ℕ → Option ℕ  -- the switch of a network
+  pub vni : ℕ → Option ℕ  -- the network of a switch
+  pub place : ℕ → ℕ → Option Place  -- where an address of a switch is
+  pub flood : ℕ → Option ℕ → List ℕ  -- where frames of a switch to a group, or else, are sent
+  pub ports : ℕ → List Port  -- the bindings of a switch, by port and VLAN
+
+-- where a frame goes: out of ports, and to addresses in packets of a network
+pub record Way : Type 0 where
+  pub outcome : Outcome
+  pub ports : List Port
+  pub addresses : List ℕ
+  pub vni : Option ℕ
+
+abbrev pub nowhere : Outcome → Option ℕ → Way
+nowhere outcome vni = record { outcome = outcome; ports = []; addresses = []; vni = vni }
+
+abbrev pub same_port : Port → Port → Bool
+same_port p q = same_bytes p.0 q.0 && (p.1 == q.1)
+
+-- but for the binding at which the frame entered
+abbrev pub but : Option Port → List Port → List Port
+but None ps = ps
+but (Some q) ps = filter (λ p. not (same_port p q)) ps
+
+-- a switch without a network sends no packet
+abbrev pub tunnelled : Option ℕ → List ℕ → List ℕ
+tunnelled None ips = []
+tunnelled (Some vni) ips = ips
+
+abbrev pub or_else : List ℕ → List ℕ → List ℕ
+or_else [] ys = ys
+or_else (x ∷ xs) ys = x ∷ xs
+
+abbrev pub group_targets : Ways → ℕ → ℕ → List ℕ
+group_targets w switch dst = if is_group dst then w.flood switch (Some dst) else []
+
+-- the addresses for the group where it has some, else those for destinations that are not known
+abbrev pub flooded : Ways → ℕ → ℕ → List ℕ
+flooded w switch dst = or_else (group_targets w switch dst) (w.flood switch None)
+
+-- the place of an individual address
+abbrev pub place_of : Ways → ℕ → ℕ → Option Place
+place_of w switch dst = if is_group dst then None else w.place switch dst
+
+abbrev pub ports_to : Ways → ℕ → Option Port → Option Place → List Port
+ports_to w switch from (Some (Here port vlan)) = but from ((port, vlan) ∷ [])
+ports_to w switch from (Some (There ip)) = []
+ports_to w switch from None = but from (w.ports switch)
+
+abbrev pub addresses_to : Ways → ℕ → Option ℕ → ℕ → Option Place → List ℕ
+addresses_to w switch vni dst (Some (Here port vlan)) = []
+addresses_to w switch vni dst (Some (There ip)) = tunnelled vni (ip ∷ [])
+addresses_to w switch vni dst None = tunnelled vni (flooded w switch dst)
+
+abbrev pub forwarded : Ways → ℕ → Option Port → Option ℕ → ℕ → Way
+forwarded w switch from vni dst =
+    record { outcome = Done; ports = ports_to w switch from (place_of w switch dst); addresses = addresses_to w switch vni dst (place_of w switch dst); vni = vni }
+
+-- a frame to its own source goes nowhere
+abbrev pub sent_on : Ways → ℕ → Option Port → Option ℕ → ℕ → ℕ → Way
+sent_on w switch from vni dst src = if dst == src then nowhere Done vni else forwarded w switch from vni dst
+
+abbrev pub from_port : Ways → Port → Option ℕ → ℕ → ℕ → Way
+from_port w p None dst src = nowhere Unbound None
+from_port w p (Some switch) dst src = sent_on w switch (Some p) (w.vni switch) dst src
+
+-- a frame out of a tunnel is not sent into one
+abbrev pub from_tunnel : Ways → Option ℕ → ℕ → ℕ → Way
+from_tunnel w None dst src = nowhere NoVni None
+from_tunnel w (Some switch) dst src = sent_on w switch None None dst src
+
+abbrev pub hop_by : Ways → Origin → ℕ → ℕ → Way
+hop_by w (origin.Port port vlan) dst src = from_port w (port, vlan) (w.bound (port, vlan)) dst src
+hop_by w (origin.Tunnel vni) dst src = from_tunnel w (w.network vni) dst src
+
+abbrev pub hop : Ways → Origin → Bytes → Way
+hop w from inner = hop_by w from (destination inner) (source inner)
+
+-- ---- by the entries
+
+abbrev pub ways_at : Entries → Ways
+ways_at m = record {
+  bound = λ p. option_map (λ b. b.switch) (bound_at m p);
+  network = network_at m;
+  vni = vni_at m;
+  place = place_at m;
+  flood = flood_at m;
+  ports = λ switch. map (λ b. b.0) (members_at m switch);
+}

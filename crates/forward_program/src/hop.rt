@@ -1,0 +1,305 @@
+//! Where a frame goes by the forwarding state.
+
+ghost use Rattle.std.specs.Prelude.{◌≡◌, ◌++◌, [], ◌∷◌, false, None, IfOk, OnOk, OnErr, length};
+ghost use Rattle.vtep_base.specs.Addresses.{be};
+ghost use Rattle.replication.specs.Targets.{targets};
+ghost use Rattle.forward_program.specs.Joins.{flood_at, mode_at, addresses_at};
+ghost use Rattle.forward_program.specs.Hop.{destination, source, but, group_targets, flooded, tunnelled, place_of, ports_to, addresses_to, sent_on, hop, ways_at};
+ghost use Rattle.forward_program.specs.HopIs.{HopIs};
+
+use crate::facts::Place;
+use crate::fib::Fib;
+use crate::held::Held;
+use crate::hops::{Hops, Origin, Outcome};
+use crate::looks::Step;
+use crate::spots::{Part, Spot};
+use vtep_base::{Inner, Ipv4, Ledger, Mac, Mode, Name, OutOfMemory, RowId, Vlan, Vni};
+
+fn mac_of(bytes: &[u8]) -> Mac
+    requires { length bytes.now ≡ 6 }
+    ensures { result ≡ be bytes.now }
+{
+    Mac::from_bytes([bytes[0], bytes[1], bytes[2], bytes[3], bytes[4], bytes[5]])
+}
+
+fn destination(inner: &Inner<'_>) -> Mac
+    ensures { result ≡ destination inner.now }
+{
+    let (first, _) = inner.addresses().split_at(6);
+    mac_of(first)
+}
+
+fn source(inner: &Inner<'_>) -> Mac
+    ensures { result ≡ source inner.now }
+{
+    let (_, second) = inner.addresses().split_at(6);
+    mac_of(second)
+}
+
+fn push_other<L: Ledger>(
+    from: &Option<(Name, Vlan)>,
+    port: (Name, Vlan),
+    out: &mut Hops<L>,
+) -> Result<(), OutOfMemory>
+    ensures ports { OnOk result (out.new.ports ≡ out.old.ports ++ but from.now (port ∷ [])) }
+    ensures addresses { out.new.addresses ≡ out.old.addresses }
+    ensures vni { out.new.vni ≡ out.old.vni }
+{
+    if let Some(entered) = from {
+        if port.0 == entered.0 && port.1 == entered.1 {
+            return Ok(());
+        }
+    }
+    out.push_port(port)
+}
+
+fn push_tunnel<L: Ledger>(ip: Ipv4, out: &mut Hops<L>) -> Result<(), OutOfMemory>
+    requires { out.old.addresses ≡ [] }
+    ensures addresses { OnOk result (out.new.addresses ≡ tunnelled out.old.vni (ip ∷ [])) }
+    ensures ports { out.new.ports ≡ out.old.ports }
+    ensures vni { out.new.vni ≡ out.old.vni }
+{
+    if out.vni().is_none() {
+        return Ok(());
+    }
+    out.push_address(ip)
+}
+
+impl<L: Ledger> Fib<L> {
+    fn flood_ports(
+        &self,
+        switch: RowId,
+        from: &Option<(Name, Vlan)>,
+        out: &mut Hops<L>,
+    ) -> Result<(), OutOfMemory>
+        ensures ports { OnOk result (out.new.ports ≡ out.old.ports
+            ++ but from.now ((ways_at self.now.entries).ports switch)) }
+        ensures addresses { out.new.addresses ≡ out.old.addresses }
+        ensures vni { out.new.vni ≡ out.old.vni }
+    {
+        'members: for (spot, held) in self.entries.walk(Some(&Spot::Switch(switch, Part::Itself))) {
+            match Step::of(switch, spot, held) {
+                Step::Itself => {}
+                Step::Member(port, vlan, _) => push_other(from, (port, vlan), out)?,
+                Step::Other => return Ok(()),
+            }
+        }
+        Ok(())
+    }
+
+    /// Where the switch sends the frames of a group, or of all destinations that are not known.
+    fn put_targets(
+        &self,
+        switch: RowId,
+        group: Option<Mac>,
+        out: &mut Hops<L>,
+    ) -> Result<(), OutOfMemory>
+        requires { out.old.addresses ≡ [] }
+        ensures addresses { OnOk result
+            (out.new.addresses ≡ flood_at self.now.entries switch group) }
+        ensures ports { out.new.ports ≡ out.old.ports }
+        ensures vni { out.new.vni ≡ out.old.vni }
+    {
+        match self.entries.find(&Spot::Switch(switch, Part::Group(group))) {
+            Some(Held::Set(set)) => self.put_set_targets(switch, *set, out),
+            _ => Ok(()),
+        }
+    }
+
+    fn put_set_targets(
+        &self,
+        switch: RowId,
+        set: RowId,
+        out: &mut Hops<L>,
+    ) -> Result<(), OutOfMemory>
+        requires { out.old.addresses ≡ [] }
+        ensures addresses { OnOk result (out.new.addresses
+            ≡ targets (mode_at self.now.entries switch) (addresses_at self.now.entries set)) }
+        ensures ports { out.new.ports ≡ out.old.ports }
+        ensures vni { out.new.vni ≡ out.old.vni }
+    {
+        self.put_addresses(set, &mut out.addresses)?;
+        match self.mode(switch) {
+            Mode::Source => {}
+            Mode::Service => out.addresses.truncate(1),
+        }
+        Ok(())
+    }
+
+    fn put_group_targets(
+        &self,
+        switch: RowId,
+        destination: Mac,
+        out: &mut Hops<L>,
+    ) -> Result<(), OutOfMemory>
+        requires { out.old.addresses ≡ [] }
+        ensures addresses { OnOk result (out.new.addresses
+            ≡ group_targets (ways_at self.now.entries) switch destination) }
+        ensures ports { out.new.ports ≡ out.old.ports }
+        ensures vni { out.new.vni ≡ out.old.vni }
+    {
+        if destination.is_group() {
+            self.put_targets(switch, Some(destination), out)
+        } else {
+            Ok(())
+        }
+    }
+
+    fn flood_tunnels(
+        &self,
+        switch: RowId,
+        destination: Mac,
+        out: &mut Hops<L>,
+    ) -> Result<(), OutOfMemory>
+        requires { out.old.addresses ≡ [] }
+        ensures addresses { OnOk result (out.new.addresses
+            ≡ flooded (ways_at self.now.entries) switch destination) }
+        ensures ports { out.new.ports ≡ out.old.ports }
+        ensures vni { out.new.vni ≡ out.old.vni }
+    {
+        self.put_group_targets(switch, destination, out)?;
+        if out.addresses().is_empty() {
+            return self.put_targets(switch, None, out);
+        }
+        Ok(())
+    }
+
+    fn flood(
+        &self,
+        switch: RowId,
+        from: &Option<(Name, Vlan)>,
+        destination: Mac,
+        out: &mut Hops<L>,
+    ) -> Result<(), OutOfMemory>
+        requires ports { out.old.ports ≡ [] }
+        requires addresses { out.old.addresses ≡ [] }
+        ensures ports { OnOk result (out.new.ports
+            ≡ ports_to (ways_at self.now.entries) switch from.now None) }
+        ensures addresses { OnOk result (out.new.addresses
+            ≡ addresses_to (ways_at self.now.entries) switch out.old.vni destination None) }
+        ensures vni { out.new.vni ≡ out.old.vni }
+    {
+        self.flood_ports(switch, from, out)?;
+        if out.vni().is_none() {
+            return Ok(());
+        }
+        self.flood_tunnels(switch, destination, out)
+    }
+
+    fn known(&self, switch: RowId, destination: Mac) -> Option<Place>
+        ensures { result ≡ place_of (ways_at self.now.entries) switch destination }
+    {
+        if destination.is_group() {
+            return None;
+        }
+        self.place(switch, destination)
+    }
+
+    fn forward(
+        &self,
+        switch: RowId,
+        from: &Option<(Name, Vlan)>,
+        destination: Mac,
+        out: &mut Hops<L>,
+    ) -> Result<(), OutOfMemory>
+        requires ports { out.old.ports ≡ [] }
+        requires addresses { out.old.addresses ≡ [] }
+        ensures ports { OnOk result (out.new.ports
+            ≡ ports_to (ways_at self.now.entries) switch from.now
+            (place_of (ways_at self.now.entries) switch destination)) }
+        ensures addresses { OnOk result (out.new.addresses
+            ≡ addresses_to (ways_at self.now.entries) switch out.old.vni destination
+            (place_of (ways_at self.now.entries) switch destination)) }
+        ensures vni { out.new.vni ≡ out.old.vni }
+    {
+        match &self.known(switch, destination) {
+            None => self.flood(switch, from, destination, out),
+            Some(Place::Here { port, vlan }) => push_other(from, (*port, *vlan), out),
+            Some(Place::There(ip)) => push_tunnel(*ip, out),
+        }
+    }
+
+    fn send_on(
+        &self,
+        switch: RowId,
+        from: &Option<(Name, Vlan)>,
+        destination: Mac,
+        source: Mac,
+        out: &mut Hops<L>,
+    ) -> Result<Outcome, OutOfMemory>
+        requires ports { out.old.ports ≡ [] }
+        requires addresses { out.old.addresses ≡ [] }
+        ensures { IfOk result (λ outcome. HopIs outcome out.new
+            (sent_on (ways_at self.now.entries) switch from.now out.old.vni destination source)) }
+    {
+        if destination != source {
+            self.forward(switch, from, destination, out)?;
+        }
+        Ok(Outcome::Done)
+    }
+
+    fn hop_from_port(
+        &self,
+        port: Name,
+        vlan: Vlan,
+        inner: &Inner<'_>,
+        out: &mut Hops<L>,
+    ) -> Result<Outcome, OutOfMemory>
+        requires ports { out.old.ports ≡ [] }
+        requires addresses { out.old.addresses ≡ [] }
+        requires vni { out.old.vni ≡ None }
+        ensures { IfOk result (λ outcome. HopIs outcome out.new
+            (hop (ways_at self.now.entries) (Origin.Port port vlan) inner.now)) }
+    {
+        match self.bound(port, vlan) {
+            Some(bound) => {
+                out.set_vni(self.vni(bound.0));
+                let from = Some((port, vlan));
+                self.send_on(bound.0, &from, destination(inner), source(inner), out)
+            }
+            None => Ok(Outcome::Unbound),
+        }
+    }
+
+    fn hop_from_tunnel(
+        &self,
+        vni: Vni,
+        inner: &Inner<'_>,
+        out: &mut Hops<L>,
+    ) -> Result<Outcome, OutOfMemory>
+        requires ports { out.old.ports ≡ [] }
+        requires addresses { out.old.addresses ≡ [] }
+        requires vni { out.old.vni ≡ None }
+        ensures { IfOk result (λ outcome. HopIs outcome out.new
+            (hop (ways_at self.now.entries) (Origin.Tunnel vni) inner.now)) }
+    {
+        match self.network(vni) {
+            Some(switch) => {
+                self.send_on(switch, &None, destination(inner), source(inner), out)
+            }
+            None => Ok(Outcome::NoVni),
+        }
+    }
+
+    /// Where a frame goes. What `out` held before is taken out first.
+    ///
+    /// A frame to its own source goes nowhere; one to an address with a place goes there; each other one goes to all other
+    /// bindings of its switch and, from a port, in a packet to each address of the group's fact or else of that for
+    /// destinations that are not known.
+    pub fn hop(
+        &self,
+        origin: &Origin,
+        inner: &Inner<'_>,
+        out: &mut Hops<L>,
+    ) -> Result<Outcome, OutOfMemory>
+        requires going { self.now.broken ≡ false }
+        ensures way { IfOk result (λ outcome. HopIs outcome out.new
+            (hop (ways_at self.now.entries) origin.now inner.now)) }
+    {
+        out.clear();
+        match origin {
+            Origin::Port { port, vlan } => self.hop_from_port(*port, *vlan, inner, out),
+            Origin::Tunnel { vni } => self.hop_from_tunnel(*vni, inner, out),
+        }
+    }
+}
