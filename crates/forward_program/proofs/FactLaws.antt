@@ -47,7 +47,7 @@ nothing_bound true x e = cc
 nothing_bound false x e = cc
 
 -- what is said stands somewhere
-something : (m : Entries) (k : Spot) (f : Fact) → fact_at m k ≡ Some f → (h : Held) × (maps.get m k ≡ Some h)
+pub something : (m : Entries) (k : Spot) (f : Fact) → fact_at m k ≡ Some f → (h : Held) × (maps.get m k ≡ Some h)
 something m k f is = by (maps.get m k) refl
   where
     none : (q : Spot) → maps.get m q ≡ None → fact_at m q ≡ Some f → ⊥
@@ -73,12 +73,12 @@ module _ (r : Rows) (rows : IsRows r) (sound : Sound r) where
 
   -- ---- the fact of a place, by what gives it
 
-  bind_at : (b : Binding) → IsIn b (bindings r) → fact_at m (spot.Port b.port b.vlan) ≡ Some (bind_fact b)
+  pub bind_at : (b : Binding) → IsIn b (bindings r) → fact_at m (spot.Port b.port b.vlan) ≡ Some (bind_fact b)
   bind_at b there =
       ap (λ o. option_map (λ (c : Bound). fact.Bind b.port b.vlan c.switch (acl_rows c.lists)) (bound_in o))
       (given_at r rows sound (spot.Port b.port b.vlan) (held.Bound b.switch b.lists) (b, there, refl, refl, refl))
 
-  network_at_row : (id : ℕ) (row : Contents) (n : ℕ) → row_at r (LogicalSwitch, id) ≡ Some row → number_at row LogicalTunnelKey ≡ Some n → fact_at m (spot.Vni n) ≡ vni_fact r (id, row)
+  pub network_at_row : (id : ℕ) (row : Contents) (n : ℕ) → row_at r (LogicalSwitch, id) ≡ Some row → number_at row LogicalTunnelKey ≡ Some n → fact_at m (spot.Vni n) ≡ vni_fact r (id, row)
   network_at_row id row n at known =
       ap (λ o. option_map (fact.Vni n) (option_and_then (λ s. if_bound (is_bound_at m s) (Some s)) (of_in o))) (given_at r rows sound (spot.Vni n) (held.Of id) (id, row, at, known, refl))
       ∙ bound_map (fact.Vni n) (is_bound_at m id) id

@@ -16,3 +16,6 @@ pub mod FactLaws
 pub mod Once
 pub mod Told
 pub mod Buts
+pub mod HopLaws
+pub mod PortLaws
+pub mod WayLaws

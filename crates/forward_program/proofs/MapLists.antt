@@ -46,7 +46,7 @@ module _ {K X : Type 0} {R : K → K → Ordering} (o : IsTotalOrder R) where
   in_has (e ∷ es) m k x (inr h) = in_has es (maps.insert m e.0 e.1) k x h
 
 module _ {K X : Type 0} {R : K → K → Ordering} (same : IsAntisymmetric R) where
-  found_in : (k : K) (x : X) (es : List (K × X)) → find R k es ≡ Some x → IsIn (k, x) es
+  pub found_in : (k : K) (x : X) (es : List (K × X)) → find R k es ≡ Some x → IsIn (k, x) es
   found_in k x [] is = cc
   found_in k x (e ∷ es) is = by (eq_by_cmp R k e.0) refl (found_in k x es) is
     where

@@ -26,7 +26,7 @@ use Rattle.forward_program.proofs.Unique.{map_of}
 use Rattle.forward_program.proofs.Walks.{below_in}
 use Rattle.forward_program.proofs.FactLaws.{said_built, built_said}
 
-abbrev spot_of : Fact → Spot
+abbrev pub spot_of : Fact → Spot
 spot_of (fact.Vni vni switch) = spot.Vni vni
 spot_of (fact.Bind port vlan switch lists) = spot.Port port vlan
 spot_of (fact.Mac switch mac place) = spot.Switch switch (part.Host mac)
@@ -42,7 +42,7 @@ flood_place true s g (ip ∷ ips) f is = ap (λ o. spot_of_some o) (sym is)
 flood_place false s g ips f is = cc
 
 -- a fact names the place that says it
-its_place : (m : Entries) (k : Spot) (f : Fact) → fact_at m k ≡ Some f → spot_of f ≡ k
+pub its_place : (m : Entries) (k : Spot) (f : Fact) → fact_at m k ≡ Some f → spot_of f ≡ k
 its_place m (spot.Port p v) f is = let x = map_of (λ (b : Bound). fact.Bind p v b.switch (acl_rows b.lists)) (bound_at m (p, v)) f is in ap spot_of x.2
 its_place m (spot.Switch s (part.Host a)) f is = let x = map_of (fact.Mac s a) (found_at m s a) f is in ap spot_of x.2
 its_place m (spot.Switch s (part.Group g)) f is = flood_place (is_bound_at m s) s g (flood_at m s g) f is

@@ -51,8 +51,11 @@ pub map_of : {A B : Type 0} (f : A → B) (o : Option A) (y : B) → option_map 
 map_of f None y is = cc
 map_of f (Some x) y is = (x, refl, ap (λ o. unwrap_or o y) (sym is))
 
-bytes_same : (s t : Bytes) → same_bytes s t ≡ true → s ≡ t
+pub bytes_same : (s t : Bytes) → same_bytes s t ≡ true → s ≡ t
 bytes_same s t e = (slice_eq-Decides Decides-eqb s t (same_bytes s t) refl).0 e
+
+pub bytes_itself : (s : Bytes) → same_bytes s s ≡ true
+bytes_itself s = (slice_eq-Decides Decides-eqb s s (same_bytes s s) refl).1 refl
 
 -- ---- two rows of one key
 

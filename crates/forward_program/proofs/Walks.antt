@@ -1,5 +1,5 @@
 -- The bindings of a switch stand behind it.
-use Rattle.std.proofs.Common.{◌≡◌, ◌⊎◌, inl, inr, ℕ, Bool, true, false, cond, T, List, [], ◌∷◌, refl, sym, ap, ◌∙◌, subst, nat_lt, arith}
+use Rattle.std.proofs.Common.{◌≡◌, ◌⊎◌, inl, inr, ℕ, Bool, true, false, cond, T, List, [], ◌∷◌, map, refl, sym, ap, ◌∙◌, subst, nat_lt, arith}
 use Rattle.std.specs.Prelude.{◌==◌}
 use Rattle.std.specs.List.{filter}
 use Rattle.std.specs.Ordering.{nat_cmp, ordering_then, is_le, is_lt}
@@ -9,7 +9,9 @@ use Rattle.std.specs.declared.cmp.Ordering.TheVariants.{Less, Equal, Greater}
 use Rattle.std.specs.FinMap.{is_sorted}
 use Rattle.std.specs.FinMap.Entries.{below_all}
 use Rattle.std.proofs.lemmas.Bool.Decides.{Decides-eqb, nat_tests}
-use Rattle.vtep_rows.proofs.Entries.{t_first, t_second, less}
+use Rattle.vtep_base.specs.Reading.{Bytes}
+use Rattle.vlan_bindings.specs.Places.{place_cmp}
+use Rattle.vtep_rows.proofs.Entries.{t_first, t_second, t_both, less}
 use Rattle.forward_program.specs.declared.spots.Spot.{Spot}
 use Rattle.forward_program.specs.declared.spots.Spot.TheVariants as spot
 use Rattle.forward_program.specs.declared.spots.Part.{Part}
@@ -172,3 +174,46 @@ module _ (s : ℕ) where
 
   pub there_member : (m : Entries) (p : Port) (lists : Lists) → IsIn (member p lists) m.list → IsIn (p, lists) (members_at m s)
   there_member m p lists h = walked m.list p lists m.sorted h
+
+  -- ---- the walk is in order
+
+  abbrev marked : List (Port × Lists) → List (Port × Unit {0})
+  marked bs = map (λ (b : Port × Lists). (b.0, tt {0})) bs
+
+  so_less : (r : Ordering) → r ≡ Less → T (is_lt r)
+  so_less r e = subst (λ q. T (is_lt q)) (sym e) tt
+
+  all_above : (p : Port) (bs : List (Port × Lists)) → ((b : Port × Lists) → IsIn b bs → place_cmp p b.0 ≡ Less) → T (below_all place_cmp p (marked bs))
+  all_above p [] h = tt
+  all_above p (b ∷ bs) h = t_both (is_lt (place_cmp p b.0)) (below_all place_cmp p (marked bs)) (so_less (place_cmp p b.0) (h b (inl refl))) (all_above p bs (λ c g. h c (inr g)))
+
+  part_order_is : (p q : Port) → spot_cmp (spot.Switch s (part.Member p.0 p.1)) (spot.Switch s (part.Member q.0 q.1)) ≡ Less → place_cmp p q ≡ Less
+  part_order_is p q e = ap (λ r. ordering_then r (place_cmp p q)) (sym tied) ∙ e
+
+  goes_in_order : (st : Step) (rest : List (Port × Lists)) → ((port : Bytes) (vlan : ℕ) (lists : Lists) → st ≡ step.Member port vlan lists → T (below_all place_cmp (port, vlan) (marked rest))) → T (is_sorted place_cmp (marked rest))
+      → T (is_sorted place_cmp (marked (after_step st rest)))
+  goes_in_order step.Itself rest above sorted = sorted
+  goes_in_order (step.Member port vlan lists) rest above sorted = t_both (below_all place_cmp (port, vlan) (marked rest)) (is_sorted place_cmp (marked rest)) (above port vlan lists refl) sorted
+  goes_in_order step.Other rest above sorted = tt
+
+  walked_in_order : (es : List (Spot × Held)) → T (is_sorted spot_cmp es) → T (is_sorted place_cmp (marked (members_from s (filter not_before es))))
+  walked_in_order [] sorted = tt
+  walked_in_order (e ∷ es) sorted = by (not_before e) (walked_in_order es (t_second (below_all spot_cmp e.0 es) (is_sorted spot_cmp es) sorted))
+    where
+      above : (port : Bytes) (vlan : ℕ) (lists : Lists) → step_of s e ≡ step.Member port vlan lists → (b : Port × Lists) → IsIn b (members_from s (filter not_before es)) → place_cmp (port, vlan) b.0 ≡ Less
+      above port vlan lists is b h =
+          let here : ◌≡◌ {A = Spot × Held} (member (port, vlan) lists) e = alone (step_found e (port, vlan) lists [] (subst (λ st. IsIn ((port, vlan), lists) (after_step st [])) (sym is) (inl refl))) in
+          let less_than : spot_cmp e.0 (spot.Switch s (part.Member b.0.0 b.0.1)) ≡ Less =
+              below_in spot_cmp e.0 es (t_first (below_all spot_cmp e.0 es) (is_sorted spot_cmp es) sorted) (member b.0 b.1) (from_filter not_before (member b.0 b.1) es (found (filter not_before es) b.0 b.1 h)) in
+          part_order_is (port, vlan) b.0 (ap (λ (x : Spot × Held). spot_cmp x.0 (spot.Switch s (part.Member b.0.0 b.0.1))) here ∙ less_than)
+        where
+          alone : {A : Type 0} → A ⊎ ⊥ → A
+          alone (inl x) = x
+          alone (inr h) = absurd h
+
+      by : (b : Bool) → T (is_sorted place_cmp (marked (members_from s (filter not_before es)))) → T (is_sorted place_cmp (marked (members_from s (cond b (e ∷ filter not_before es) (filter not_before es)))))
+      by false rest = rest
+      by true rest = goes_in_order (step_of s e) (members_from s (filter not_before es)) (λ port vlan lists is. all_above (port, vlan) (members_from s (filter not_before es)) (above port vlan lists is)) rest
+
+  pub members_in_order : (m : Entries) → T (is_sorted place_cmp (marked (members_at m s)))
+  members_in_order m = walked_in_order m.list m.sorted

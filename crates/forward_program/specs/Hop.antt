@@ -1,8 +1,8 @@
 -- Where a frame goes that entered at a port or came out of a tunnel.
-use Rattle.std.specs.Prelude.{ℕ, Bool, not, ◌&&◌, ◌==◌, if◌then◌else◌, List, [], ◌∷◌, map, filter, filter_map, take, drop, Option, Some, None, option_map, unwrap_or}
-use Rattle.std.specs.BTreeSet.{insert_key}
+use Rattle.std.specs.Prelude.{ℕ, Bool, true, false, not, ◌&&◌, ◌==◌, if◌then◌else◌, List, [], ◌∷◌, map, filter, filter_map, take, drop, Option, Some, None, option_map, unwrap_or}
 use Rattle.vtep_base.specs.Reading.{Bytes, same_bytes}
 use Rattle.vtep_base.specs.Addresses.{be, is_group}
+use Rattle.vtep_base.specs.Maps as maps
 use Rattle.vlan_bindings.specs.Places.{place_cmp}
 use Rattle.vtep_rows.specs.Row.{first}
 use Rattle.forward_program.specs.declared.facts.Fact.{Fact}
@@ -103,6 +103,51 @@ hop_by w (origin.Tunnel vni) dst src = from_tunnel w (w.network vni) dst src
 
 abbrev pub hop : Ways → Origin → Bytes → Way
 hop w from inner = hop_by w from (destination inner) (source inner)
+
+-- ---- by the facts
+
+abbrev pub bound_by : Port → Fact → Option ℕ
+bound_by p (fact.Bind port vlan switch lists) = if same_port p (port, vlan) then Some switch else None
+bound_by p _ = None
+
+abbrev pub network_by : ℕ → Fact → Option ℕ
+network_by n (fact.Vni vni switch) = if vni == n then Some switch else None
+network_by n _ = None
+
+abbrev pub vni_by : ℕ → Fact → Option ℕ
+vni_by s (fact.Vni vni switch) = if switch == s then Some vni else None
+vni_by s _ = None
+
+abbrev pub place_by : ℕ → ℕ → Fact → Option Place
+place_by s mac (fact.Mac switch address place) = if (switch == s) && (address == mac) then Some place else None
+place_by s mac _ = None
+
+abbrev pub same_group : Option ℕ → Option ℕ → Bool
+same_group None None = true
+same_group (Some m) (Some n) = m == n
+same_group _ _ = false
+
+abbrev pub flood_by : ℕ → Option ℕ → Fact → Option (List ℕ)
+flood_by s group (fact.Flood switch key addresses) = if (switch == s) && same_group key group then Some addresses else None
+flood_by s group _ = None
+
+abbrev pub port_by : ℕ → Fact → Option Port
+port_by s (fact.Bind port vlan switch lists) = if switch == s then Some (port, vlan) else None
+port_by s _ = None
+
+-- by name, and then by VLAN
+abbrev pub in_order : List Port → List Port
+in_order ps = maps.keys (maps.of_list {R = place_cmp} (map (λ p. (p, tt {0})) ps))
+
+abbrev pub ways_of : List Fact → Ways
+ways_of facts = record {
+  bound = λ p. first (filter_map (bound_by p) facts);
+  network = λ n. first (filter_map (network_by n) facts);
+  vni = λ s. first (filter_map (vni_by s) facts);
+  place = λ s mac. first (filter_map (place_by s mac) facts);
+  flood = λ s group. unwrap_or (first (filter_map (flood_by s group) facts)) [];
+  ports = λ s. in_order (filter_map (port_by s) facts);
+}
 
 -- ---- by the entries
 

@@ -2,9 +2,13 @@
 
 ghost use Rattle.std.specs.Prelude.{◌≡◌, ◌++◌, [], ◌∷◌, false, None, IfOk, OnOk, OnErr, length};
 ghost use Rattle.vtep_base.specs.Addresses.{be};
+ghost use Rattle.vtep_rows.specs.Rows.{Rows as AllRows, IsRows};
+ghost use Rattle.vtep_rows.specs.Sound.{Sound};
 ghost use Rattle.replication.specs.Targets.{targets};
+ghost use Rattle.forward_program.specs.Built.{built};
+ghost use Rattle.forward_program.specs.Shown.{shown};
 ghost use Rattle.forward_program.specs.Joins.{flood_at, mode_at, addresses_at};
-ghost use Rattle.forward_program.specs.Hop.{destination, source, but, group_targets, flooded, tunnelled, place_of, ports_to, addresses_to, sent_on, hop, ways_at};
+ghost use Rattle.forward_program.specs.Hop.{destination, source, but, group_targets, flooded, tunnelled, place_of, ports_to, addresses_to, sent_on, hop, ways_at, ways_of};
 ghost use Rattle.forward_program.specs.HopIs.{HopIs};
 
 use crate::facts::Place;
@@ -281,6 +285,22 @@ impl<L: Ledger> Fib<L> {
         }
     }
 
+    fn hop_from(
+        &self,
+        origin: &Origin,
+        inner: &Inner<'_>,
+        out: &mut Hops<L>,
+    ) -> Result<Outcome, OutOfMemory>
+        ensures { IfOk result (λ outcome. HopIs outcome out.new
+            (hop (ways_at self.now.entries) origin.now inner.now)) }
+    {
+        out.clear();
+        match origin {
+            Origin::Port { port, vlan } => self.hop_from_port(*port, *vlan, inner, out),
+            Origin::Tunnel { vni } => self.hop_from_tunnel(*vni, inner, out),
+        }
+    }
+
     /// Where a frame goes. What `out` held before is taken out first.
     ///
     /// A frame to its own source goes nowhere; one to an address with a place goes there; each other one goes to all other
@@ -295,11 +315,11 @@ impl<L: Ledger> Fib<L> {
         requires going { self.now.broken ≡ false }
         ensures way { IfOk result (λ outcome. HopIs outcome out.new
             (hop (ways_at self.now.entries) origin.now inner.now)) }
+        // Of sound rows it goes where the facts say that are built from the rows.
+        ensures built { (r : AllRows) → IsRows r → Sound r → self.now.entries ≡ shown r
+            → IfOk result (λ outcome. HopIs outcome out.new
+            (hop (ways_of (built r)) origin.now inner.now)) }
     {
-        out.clear();
-        match origin {
-            Origin::Port { port, vlan } => self.hop_from_port(*port, *vlan, inner, out),
-            Origin::Tunnel { vni } => self.hop_from_tunnel(*vni, inner, out),
-        }
+        self.hop_from(origin, inner, out)
     }
 }
