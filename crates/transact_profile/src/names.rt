@@ -18,9 +18,9 @@ pub struct NameSet {
 
 impl Model for NameSet {
     ghost use Rattle.vtep_base.specs.Maps as maps;
-    ghost use Rattle.transact_profile.specs.Names.{NameSet as Set, set_code};
+    ghost use Rattle.transact_profile.specs.Names.{NameSet as AllNames, set_code};
 
-    ghost Value = { Set };
+    ghost Value = { AllNames };
 
     ghost coded = { set_code };
 

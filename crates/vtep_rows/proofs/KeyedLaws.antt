@@ -119,7 +119,7 @@ rising r i j tie h = ranked i j Less (sym h ∙ ap (λ x. ordering_then x (nat_c
 
 module _ (x : Indexes) (m : Map key_cmp Contents) (t : Table) (key : List Atom) where
   abbrev place : Place
-  place = (t, 0, (stamp_with key).id, (stamp_with key).number)
+  place = (t, 0, (stamp_with key).number, (stamp_with key).id)
 
   abbrev target : Key × Contents → Bool
   target e = same_table e.0.0 t && holds (first_key t) key e.1

@@ -145,7 +145,7 @@ module _ (x : Indexes) (m : Map key_cmp Contents) (t : Table) (place id : ℕ) (
   twin e = same_table e.0.0 t && (not (e.0.1 == id) && agree_at t place row e.1)
 
   abbrev found : Stamp → Mark × ℕ → Bool
-  found s e = is_at_place (t, place, s.id, s.number) e.0 && (not (e.0.4 == id) && agree_there t place row (maps.get m (t, e.0.4)))
+  found s e = is_at_place (t, place, s.number, s.id) e.0 && (not (e.0.4 == id) && agree_there t place row (maps.get m (t, e.0.4)))
 
   is_there : (i : ℕ) (o : Option Contents) → maps.get m (t, i) ≡ o → not (i == id) ≡ true → agree_there t place row o ≡ true → list_any twin m.list ≡ true
   is_there i None is other h = absurd (true≢false (sym h))
@@ -153,7 +153,7 @@ module _ (x : Indexes) (m : Map key_cmp Contents) (t : Table) (place id : ℕ) (
 
   twin_found : (s : Stamp) → list_any (found s) x.marks.list ≡ true → list_any twin m.list ≡ true
   twin_found s = any_so (found s) x.marks.list (λ e h.
-      let rest = second_so (is_at_place (t, place, s.id, s.number) e.0) (not (e.0.4 == id) && agree_there t place row (maps.get m (t, e.0.4))) h in
+      let rest = second_so (is_at_place (t, place, s.number, s.id) e.0) (not (e.0.4 == id) && agree_there t place row (maps.get m (t, e.0.4))) h in
       is_there e.0.4 (maps.get m (t, e.0.4)) refl (first_so _ _ rest) (second_so _ _ rest))
 
   found_twin : (s : Stamp) → IsIndexed x m → stamp_at t place row ≡ Some s → list_any twin m.list ≡ true → list_any (found s) x.marks.list ≡ true
@@ -168,13 +168,13 @@ module _ (x : Indexes) (m : Map key_cmp Contents) (t : Table) (place id : ℕ) (
       any_found mark_exact (found s) q n x.marks.list held
       (both _ _ (at_place s k.1) (both (not (k.1 == id)) _ (first_so (not (k.1 == id)) (agree_at t place row b) rest) (ap (agree_there t place row) there ∙ same)))))
     where
-      at_place : (s : Stamp) (i : ℕ) → is_at_place (t, place, s.id, s.number) (mark_by (t, i) place s) ≡ true
-      at_place s i = (eq_by_cmp_equiv place_total).refl (t, place, s.id, s.number)
+      at_place : (s : Stamp) (i : ℕ) → is_at_place (t, place, s.number, s.id) (mark_by (t, i) place s) ≡ true
+      at_place s i = (eq_by_cmp_equiv place_total).refl (t, place, s.number, s.id)
 
   pub twin_is : (s : Stamp) → IsIndexed x m → stamp_at t place row ≡ Some s
-      → list_any (λ e. not (e.0.4 == id) && agree_there t place row (maps.get m (t, e.0.4))) (filter (λ e. is_at_place (t, place, s.id, s.number) e.0) x.marks.list) ≡ list_any twin m.list
+      → list_any (λ e. not (e.0.4 == id) && agree_there t place row (maps.get m (t, e.0.4))) (filter (λ e. is_at_place (t, place, s.number, s.id) e.0) x.marks.list) ≡ list_any twin m.list
   twin_is s indexed is =
-      any_filter (λ e. not (e.0.4 == id) && agree_there t place row (maps.get m (t, e.0.4))) (λ e. is_at_place (t, place, s.id, s.number) e.0) x.marks.list
+      any_filter (λ e. not (e.0.4 == id) && agree_there t place row (maps.get m (t, e.0.4))) (λ e. is_at_place (t, place, s.number, s.id) e.0) x.marks.list
       ∙ one_answer (list_any (found s) x.marks.list) (list_any twin m.list) (twin_found s) (found_twin s indexed is)
 
   pub no_twin : stamp_at t place row ≡ None → false ≡ list_any twin m.list

@@ -63,7 +63,7 @@ stamp_at t place row = option_and_then (stamp_of row) (nth place (unique_keys t)
 
 -- ---- marks
 
--- a table, the place of a unique key, the identifier and the number of its stamp, and a row
+-- a table, the place of a unique key, the number and the identifier of its stamp, and a row
 abbrev pub Mark : Type 0
 Mark = Table × ℕ × ℕ × ℕ × ℕ
 
@@ -99,7 +99,7 @@ IsNumbered m = list_all (λ e. nat_lt e.0.4 (2 ^ 128)) m.list ≡ true
 -- ---- how often a row has a mark
 
 abbrev pub mark_by : Key → ℕ → Stamp → Mark
-mark_by k place s = (k.0, place, s.id, s.number, k.1)
+mark_by k place s = (k.0, place, s.number, s.id, k.1)
 
 abbrev pub times : Mark → Key → ℕ → Option Stamp → ℕ
 times q k place None = 0

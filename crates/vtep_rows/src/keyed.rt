@@ -69,7 +69,7 @@ pub(crate) fn first_marked(
 ) -> Option<RowId>
     ensures { result ≡ first (map (λ e. e.0.4)
         (filter (λ e. holds_there table key.now (maps.get store.now (table, e.0.4)))
-        (filter (λ e. is_at_place (table, 0, stamp.id, stamp.number) e.0) marks.now.list))) }
+        (filter (λ e. is_at_place (table, 0, stamp.number, stamp.id) e.0) marks.now.list))) }
 {
     'marks: for (mark, _) in marks.at(table, 0, stamp) {
         if holds_there(store, table, key, mark.4) {

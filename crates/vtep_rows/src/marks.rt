@@ -16,8 +16,8 @@ use std::marker::Model;
 use vtep_base::{OutOfMemory, RowId};
 use vtep_schema::Table;
 
-/// A table, the place of a unique key, the identifier and the number of its stamp, and the identifier of a row.
-pub(crate) type Mark = (Table, u8, RowId, u64, RowId);
+/// A table, the place of a unique key, the number and the identifier of its stamp, and the identifier of a row.
+pub(crate) type Mark = (Table, u8, u64, RowId, RowId);
 
 /// How often each mark stands: once, and twice for a moment where a row is replaced by one with the same key.
 #[derive(Drop)]
@@ -53,7 +53,7 @@ impl Marks {
         ensures { result ≡ count_at self.now (mark_by (table, row) place stamp) }
     {
         self.by_mark
-            .get(&(table, place, stamp.id, stamp.number, row))
+            .get(&(table, place, stamp.number, stamp.id, row))
             .copied()
             .unwrap_or(0)
     }
@@ -74,7 +74,7 @@ impl Marks {
             return Err(OutOfMemory);
         }
         self.by_mark
-            .insert((table, place, stamp.id, stamp.number, row), n + 1)?;
+            .insert((table, place, stamp.number, stamp.id, row), n + 1)?;
         Ok(())
     }
 
@@ -85,11 +85,11 @@ impl Marks {
         let n = self.of(table, place, stamp, row);
         if n <= 1 {
             self.by_mark
-                .remove(&(table, place, stamp.id, stamp.number, row));
+                .remove(&(table, place, stamp.number, stamp.id, row));
         } else {
             let _ = self
                 .by_mark
-                .insert((table, place, stamp.id, stamp.number, row), n - 1);
+                .insert((table, place, stamp.number, stamp.id, row), n - 1);
         }
     }
 
@@ -142,12 +142,12 @@ impl Marks {
 
     /// The marks of a stamp, by row. Takes no memory.
     pub(crate) fn at(&self, table: Table, place: u8, stamp: Stamp) -> Range<'_, Mark, u64>
-        ensures rest { result ≡ filter (λ e. is_at_place (table, place, stamp.id, stamp.number) e.0)
+        ensures rest { result ≡ filter (λ e. is_at_place (table, place, stamp.number, stamp.id) e.0)
             self.now.list }
         ensures runs { ShowsInOrder (deref_pair {K = AMark} {X = ℕ}) }
     {
-        let least = (table, place, stamp.id, stamp.number, 0);
-        let most = (table, place, stamp.id, stamp.number, RowId::MAX);
+        let least = (table, place, stamp.number, stamp.id, 0);
+        let most = (table, place, stamp.number, stamp.id, RowId::MAX);
         self.by_mark.range(least..=most)
     }
 }

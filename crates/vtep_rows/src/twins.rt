@@ -47,7 +47,7 @@ pub(crate) fn has_marked_twin(
 ) -> bool
     ensures { result ≡ list_any (λ e. not (e.0.4 == id)
         && agree_there table place row.now (maps.get store.now (table, e.0.4)))
-        (filter (λ e. is_at_place (table, place, stamp.id, stamp.number) e.0) marks.now.list) }
+        (filter (λ e. is_at_place (table, place, stamp.number, stamp.id) e.0) marks.now.list) }
 {
     'marks: for (mark, _) in marks.at(table, place, stamp) {
         if mark.4 != id && agree_there(store, table, place, row, mark.4) {

@@ -10,4 +10,4 @@ abbrev pub invariant-marks : goal.invariant-marks
 invariant-marks l =
     first (map (λ e. e.0.4) (filter (λ e. holds_there l.fn.table l.key (maps.get l.store (l.fn.table, e.0.4))) l.mark-iterator))
     ≡ first (map (λ e. e.0.4) (filter (λ e. holds_there l.fn.table l.key (maps.get l.store (l.fn.table, e.0.4)))
-    (filter (λ e. is_at_place (l.fn.table, 0, l.fn.stamp.id, l.fn.stamp.number) e.0) l.fn.marks.list)))
+    (filter (λ e. is_at_place (l.fn.table, 0, l.fn.stamp.number, l.fn.stamp.id) e.0) l.fn.marks.list)))

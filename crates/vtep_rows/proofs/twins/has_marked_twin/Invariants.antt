@@ -9,4 +9,4 @@ abbrev pub invariant-marks : goal.invariant-marks
 invariant-marks l =
     list_any (λ e. not (e.0.4 == l.fn.id) && agree_there l.fn.table l.fn.place l.row (maps.get l.store (l.fn.table, e.0.4))) l.mark-iterator
     ≡ list_any (λ e. not (e.0.4 == l.fn.id) && agree_there l.fn.table l.fn.place l.row (maps.get l.store (l.fn.table, e.0.4)))
-    (filter (λ e. is_at_place (l.fn.table, l.fn.place, l.fn.stamp.id, l.fn.stamp.number) e.0) l.fn.marks.list)
+    (filter (λ e. is_at_place (l.fn.table, l.fn.place, l.fn.stamp.number, l.fn.stamp.id) e.0) l.fn.marks.list)

@@ -11,6 +11,6 @@ use Rattle.vtep_rows.proofs.indexed.Indexed.keyed.Goals as goal
 pub returns : goal.returns
 returns c =
     c.first_marked.ensures
-    ∙ ap (λ s. first (map (λ e. e.0.4) (filter (λ e. holds_there c.args.table c.args.key.now (maps.get c.self.inside.store (c.args.table, e.0.4))) (filter (λ e. is_at_place (c.args.table, 0, s.id, s.number) e.0) c.self.inside.indexes.marks.list)))) c.of.ensures
+    ∙ ap (λ s. first (map (λ e. e.0.4) (filter (λ e. holds_there c.args.table c.args.key.now (maps.get c.self.inside.store (c.args.table, e.0.4))) (filter (λ e. is_at_place (c.args.table, 0, s.number, s.id) e.0) c.self.inside.indexes.marks.list)))) c.of.ensures
     ∙ first_is c.self.inside.indexes c.self.inside.store c.args.table c.args.key.now c.self.invariant
     ∙ ap (λ m. first (map (λ e. e.0.1) (filter (λ e. same_table e.0.0 c.args.table && holds (first_key c.args.table) c.args.key.now e.1) m.list))) c.self.view_is

@@ -14,5 +14,5 @@ returns-clause-rest c =
     c.range.ensures.between c.new.ensures.exhausted
     ∙ (λ i. filter (λ e. range_contains mark_cmp (Included (c.new.ensures.start i)) (Included (c.new.ensures.end i)) e.0)
     (sym (list-of_list mark_total c.self.inside.by_mark.entries c.range.ensures.ordered) i))
-    ∙ of_one_place (maps.of_list c.self.inside.by_mark.entries).list (c.args.table, c.args.place, c.args.stamp.id, c.args.stamp.number) c.self.invariant
-    ∙ ap (λ m. filter (λ e. is_at_place (c.args.table, c.args.place, c.args.stamp.id, c.args.stamp.number) e.0) m.list) c.self.view_is
+    ∙ of_one_place (maps.of_list c.self.inside.by_mark.entries).list (c.args.table, c.args.place, c.args.stamp.number, c.args.stamp.id) c.self.invariant
+    ∙ ap (λ m. filter (λ e. is_at_place (c.args.table, c.args.place, c.args.stamp.number, c.args.stamp.id) e.0) m.list) c.self.view_is

@@ -8,5 +8,5 @@ use Rattle.vtep_rows.proofs.marks.Marks.of.Goals as goal
 pub returns : goal.returns
 returns c =
     c.unwrap_or.ensures
-    ∙ ap (λ o. unwrap_or o 0) (c.copied.ensures ∙ c.get.ensures.value ∙ sym (get-held mark_total c.self.inside.by_mark.entries (c.args.table, c.args.place, c.args.stamp.id, c.args.stamp.number, c.args.row)))
-    ∙ ap (λ m. count_at m (c.args.table, c.args.place, c.args.stamp.id, c.args.stamp.number, c.args.row)) c.self.view_is
+    ∙ ap (λ o. unwrap_or o 0) (c.copied.ensures ∙ c.get.ensures.value ∙ sym (get-held mark_total c.self.inside.by_mark.entries (c.args.table, c.args.place, c.args.stamp.number, c.args.stamp.id, c.args.row)))
+    ∙ ap (λ m. count_at m (c.args.table, c.args.place, c.args.stamp.number, c.args.stamp.id, c.args.row)) c.self.view_is
