@@ -13,18 +13,25 @@ pub struct Entry {
     pub direction: Direction,
     /// What becomes of a frame.
     pub action: Action,
+    /// The source of the frame.
     pub source_mac: Option<Mac>,
+    /// The destination of the frame.
     pub dest_mac: Option<Mac>,
+    /// The type of what the frame carries.
     pub ethertype: Option<u16>,
+    /// The source in the IPv4 header.
     pub source_ip: Option<Ipv4>,
     /// The bits of `source_ip` that are looked at; all, where it is absent.
     pub source_mask: Option<Ipv4>,
+    /// The destination in the IPv4 header.
     pub dest_ip: Option<Ipv4>,
     /// The bits of `dest_ip` that are looked at; all, where it is absent.
     pub dest_mask: Option<Ipv4>,
     /// The number of the protocol in the IPv4 header.
     pub protocol: Option<u8>,
+    /// The type of the ICMP message.
     pub icmp_type: Option<u8>,
+    /// The code of the ICMP message.
     pub icmp_code: Option<u8>,
     /// The least source port; 0, where it is absent and the greatest is given.
     pub source_port_min: Option<u16>,
@@ -34,7 +41,7 @@ pub struct Entry {
     pub dest_port_min: Option<u16>,
     /// The greatest destination port; 65535, where it is absent and the least is given.
     pub dest_port_max: Option<u16>,
-    /// The nine flags from NS down to FIN.
+    /// The nine flags of TCP from NS down to FIN.
     pub tcp_flags: Option<u16>,
     /// The flags that are looked at; all nine, where it is absent.
     pub tcp_flags_mask: Option<u16>,

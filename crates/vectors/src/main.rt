@@ -6,10 +6,13 @@
 //! FIRST on. `~` and two hexadecimal digits stand for a byte, `~#` for the number, and `~x` for its three hexadecimal digits.
 #![tactic(auto)]
 
+mod acls;
 mod bindings;
 mod cases;
 mod faults;
 mod frames;
+mod header_fields;
+mod learning;
 mod lines;
 mod messages;
 mod mirrors;

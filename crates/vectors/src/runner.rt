@@ -6,7 +6,9 @@ use crate::mirrors::Mirrors;
 use crate::scripts::Scripts;
 use crate::sessions::Sessions;
 use crate::transactions::Transactions;
-use crate::{frames, messages, packets, rows, schemas, texts, values};
+use crate::{
+    acls, frames, header_fields, learning, messages, packets, rows, schemas, texts, values,
+};
 use std::alloc::Global;
 use vtep_base::Bytes;
 
@@ -21,6 +23,9 @@ pub enum Runner {
     Mirrors(Mirrors),
     Bindings(Bindings),
     Frames,
+    Headers,
+    Acls,
+    Learning,
     Packets,
     Values,
     Texts,
@@ -39,6 +44,9 @@ impl Runner {
             "mirrors" => Runner::Mirrors(Mirrors::new(alloc)),
             "bindings" => Runner::Bindings(Bindings::new(alloc)),
             "frames" => Runner::Frames,
+            "headers" => Runner::Headers,
+            "acls" => Runner::Acls,
+            "learning" => Runner::Learning,
             "packets" => Runner::Packets,
             "values" => Runner::Values,
             "texts" => Runner::Texts,
@@ -64,6 +72,9 @@ impl Runner {
             Runner::Mirrors(mirrors) => mirrors.answer(alloc, asked, answer),
             Runner::Bindings(bindings) => bindings.answer(alloc, asked, answer),
             Runner::Frames => frames::answer(alloc, asked, answer),
+            Runner::Headers => header_fields::answer(alloc, asked, answer),
+            Runner::Acls => acls::answer(alloc, asked, answer),
+            Runner::Learning => learning::answer(alloc, asked, answer),
             Runner::Packets => packets::answer(alloc, asked, answer),
             Runner::Values => values::answer(alloc, asked, answer),
             Runner::Texts => texts::answer(alloc, asked, answer),
