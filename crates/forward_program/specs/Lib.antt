@@ -8,3 +8,4 @@ pub mod Inserts
 pub mod Hop
 pub mod Hops
 pub mod HopIs
+pub mod Sent

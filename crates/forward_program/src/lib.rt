@@ -9,6 +9,7 @@ mod hops;
 mod laws;
 mod looks;
 mod readings;
+mod sent;
 mod spots;
 
 pub use facts::{Fact, Place};
@@ -16,4 +17,5 @@ pub use fib::Fib;
 pub use held::{Few, Held, Lists};
 pub use hops::{Hops, Origin, Outcome};
 pub use laws::facts_are_built;
+pub use sent::{Out, Sent};
 pub use spots::{Part, Spot};
