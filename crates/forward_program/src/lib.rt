@@ -17,5 +17,6 @@ pub use fib::Fib;
 pub use held::{Few, Held, Lists};
 pub use hops::{Hops, Origin, Outcome};
 pub use laws::facts_are_built;
+pub use readings::own_address;
 pub use sent::{Out, Sent};
 pub use spots::{Part, Spot};

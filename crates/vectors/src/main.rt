@@ -9,11 +9,13 @@
 mod acls;
 mod bindings;
 mod cases;
+mod facts;
 mod faults;
 mod frames;
 mod header_fields;
 mod learning;
 mod lines;
+mod locators;
 mod messages;
 mod mirrors;
 mod opening;

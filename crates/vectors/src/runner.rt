@@ -7,7 +7,8 @@ use crate::scripts::Scripts;
 use crate::sessions::Sessions;
 use crate::transactions::Transactions;
 use crate::{
-    acls, frames, header_fields, learning, messages, packets, rows, schemas, texts, values,
+    acls, frames, header_fields, learning, locators, messages, packets, rows, schemas, texts,
+    values,
 };
 use std::alloc::Global;
 use vtep_base::Bytes;
@@ -26,6 +27,7 @@ pub enum Runner {
     Headers,
     Acls,
     Learning,
+    Locators,
     Packets,
     Values,
     Texts,
@@ -38,7 +40,7 @@ impl Runner {
     /// The runner of the table of this name.
     pub fn named(alloc: Global, name: &str) -> Result<Runner, CaseFault> {
         Ok(match name {
-            "transactions" => Runner::Transactions(Transactions::new(alloc)?),
+            "transactions" | "facts" => Runner::Transactions(Transactions::new(alloc)?),
             "gateway" => Runner::Gateway(Sessions::new(alloc)?),
             "scripts" => Runner::Scripts(Scripts::new(alloc)),
             "mirrors" => Runner::Mirrors(Mirrors::new(alloc)),
@@ -47,6 +49,7 @@ impl Runner {
             "headers" => Runner::Headers,
             "acls" => Runner::Acls,
             "learning" => Runner::Learning,
+            "locators" => Runner::Locators,
             "packets" => Runner::Packets,
             "values" => Runner::Values,
             "texts" => Runner::Texts,
@@ -75,6 +78,7 @@ impl Runner {
             Runner::Headers => header_fields::answer(alloc, asked, answer),
             Runner::Acls => acls::answer(alloc, asked, answer),
             Runner::Learning => learning::answer(alloc, asked, answer),
+            Runner::Locators => locators::answer(alloc, asked, answer),
             Runner::Packets => packets::answer(alloc, asked, answer),
             Runner::Values => values::answer(alloc, asked, answer),
             Runner::Texts => texts::answer(alloc, asked, answer),

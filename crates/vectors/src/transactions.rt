@@ -1,5 +1,6 @@
 //! Transactions and their result arrays.
 
+use crate::facts;
 use crate::faults::CaseFault;
 use crate::lines::{say, text};
 use crate::opening::Opening;
@@ -38,6 +39,8 @@ fn results(alloc: Global, rows: &mut Rows, operations: &str) -> Result<String, C
 pub struct Transactions {
     opening: Opening,
     rows: Rows,
+    /// The rows before the last transaction.
+    before: Rows,
 }
 
 impl Transactions {
@@ -46,12 +49,14 @@ impl Transactions {
         Ok(Transactions {
             opening: Opening::Gateway,
             rows: Opening::Gateway.rows(alloc)?,
+            before: Opening::Gateway.rows(alloc)?,
         })
     }
 
     /// Adds what each line gives: `gateway` and `ports` say at which rows the transactions behind them begin, `counter` asks for
-    /// the greatest row number, and every other line is the operations of a transaction. Behind `then` they go on at the rows
-    /// that the last ones left.
+    /// the greatest row number, `facts` for those of the forwarding state of the rows, and `applied` for those of the state
+    /// that follows from the one before the last transaction. Every other line is the operations of a transaction. Behind
+    /// `then` they go on at the rows that the last ones left.
     pub fn answer(
         &mut self,
         alloc: Global,
@@ -68,6 +73,8 @@ impl Transactions {
         match line {
             "gateway" => self.opening = Opening::Gateway,
             "ports" => self.opening = Opening::Ports,
+            "facts" => facts::built(alloc, &self.rows, answer)?,
+            "applied" => facts::applied(alloc, &self.before, &self.rows, answer)?,
             "counter" => {
                 let counter = format!(in alloc; "{}", self.rows.counter())?;
                 say(answer, counter.as_str())?;
@@ -88,6 +95,7 @@ impl Transactions {
                 line
             }
         };
+        self.before = self.rows.copy(alloc)?;
         results(alloc, &mut self.rows, operations)
     }
 }
