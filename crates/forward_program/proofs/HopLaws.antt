@@ -1,22 +1,20 @@
 -- Where a frame goes by the entries of sound rows is where it goes by the facts that are built from the rows.
-use Rattle.std.proofs.Common.{◌≡◌, ◌⊎◌, inl, inr, ℕ, Bool, true, false, cond, ◌&&◌, ◌||◌, T, List, [], ◌∷◌, map, Option, Some, None, is_some, refl, sym, ap, ◌∙◌, subst}
+use Rattle.std.proofs.Common.{◌≡◌, inl, ℕ, Bool, true, false, cond, ◌&&◌, ◌||◌, List, [], ◌∷◌, Option, Some, None, refl, sym, ap, ◌∙◌, subst}
 use Rattle.std.specs.Prelude.{◌==◌}
 use Rattle.std.specs.List.{filter_map}
 use Rattle.std.specs.Option.{option_and_then, option_map, unwrap_or}
 use Rattle.std.specs.Cmp.{first_so, second_so}
 use Rattle.std.proofs.lemmas.Bool.Decides.{Decides-eqb}
 use Rattle.vtep_base.specs.Reading.{Bytes, same_bytes}
-use Rattle.vtep_base.specs.Maps as maps
 use Rattle.vtep_schema.specs.declared.Table.TheVariants.{LogicalSwitch}
 use Rattle.vtep_schema.specs.declared.Column.TheVariants.{LogicalTunnelKey}
-use Rattle.vtep_rows.specs.Row.{Contents, number_at, first}
+use Rattle.vtep_rows.specs.Row.{number_at, first}
 use Rattle.vtep_rows.specs.Rows.{Rows, IsRows, row_at}
 use Rattle.vtep_rows.specs.Sound.{Sound}
 use Rattle.vtep_rows.proofs.Entries.{same_some, both}
 use Rattle.forward_program.specs.declared.spots.Spot.{Spot}
 use Rattle.forward_program.specs.declared.spots.Spot.TheVariants as spot
 use Rattle.forward_program.specs.declared.spots.Part.TheVariants as part
-use Rattle.forward_program.specs.declared.held.Lists.{Lists}
 use Rattle.forward_program.specs.declared.facts.Fact.{Fact}
 use Rattle.forward_program.specs.declared.facts.Fact.TheVariants as fact
 use Rattle.forward_program.specs.declared.facts.Place.{Place}
@@ -26,9 +24,9 @@ use Rattle.forward_program.specs.Shown.{shown}
 use Rattle.forward_program.specs.Joins.{Port, Bound, bound_at, of_in, network_at, vni_at, place_at, found_at, flood_at, is_bound_at, fact_at}
 use Rattle.forward_program.specs.Hop.{same_port, bound_by, network_by, vni_by, place_by, flood_by, same_group}
 use Rattle.forward_program.proofs.InLists.{in_picked, picked_in}
-use Rattle.forward_program.proofs.Unique.{at_given, given_at, some_of, map_of, bytes_same, bytes_itself}
+use Rattle.forward_program.proofs.Unique.{at_given, some_of, map_of, bytes_same, bytes_itself}
 use Rattle.forward_program.specs.Places.{is_here}
-use Rattle.forward_program.proofs.FactLaws.{said_built, built_said, network_at_row, bind_at, something}
+use Rattle.forward_program.proofs.FactLaws.{said_built, built_said, network_at_row, something}
 use Rattle.forward_program.proofs.JoinLaws.{bound_is, vni_is}
 use Rattle.forward_program.proofs.Once.{its_place, found_built, built_found}
 
@@ -116,8 +114,7 @@ module _ (r : Rows) (rows : IsRows r) (sound : Sound r) where
 
       back : (y : ℕ) → option_map (λ (b : Bound). b.switch) (bound_at m p) ≡ Some y → (f : Fact) × IsIn f (built r) × (bound_by p f ≡ Some y)
       back y e =
-          let b = map_of (λ (b : Bound). b.switch) (bound_at m p) y e in
-          (
+          let b = map_of (λ (b : Bound). b.switch) (bound_at m p) y e in (
             fact.Bind p.0 p.1 b.0.switch (acl_rows b.0.lists),
             said_built r rows sound (spot.Port p.0 p.1) (fact.Bind p.0 p.1 b.0.switch (acl_rows b.0.lists)) (ap (option_map (λ (c : Bound). fact.Bind p.0 p.1 c.switch (acl_rows c.lists))) b.1),
             passes (same_port p p) b.0.switch (port_itself p) ∙ ap Some (sym b.2),
@@ -171,11 +168,10 @@ module _ (r : Rows) (rows : IsRows r) (sound : Sound r) where
 
         back : (y : ℕ) → vni_at m s ≡ Some y → (f : Fact) × IsIn f (built r) × (vni_by s f ≡ Some y)
         back y e =
-            let x = some_of (λ row. number_at row LogicalTunnelKey) (row_at r (LogicalSwitch, s)) y (sym (vni_is r rows sound s) ∙ e) in
-            (
+            let x = some_of (λ row. number_at row LogicalTunnelKey) (row_at r (LogicalSwitch, s)) y (sym (vni_is r rows sound s) ∙ e) in (
               fact.Vni y s,
               said_built r rows sound (spot.Vni y) (fact.Vni y s)
-              (network_at_row r rows sound s x.0 y x.1 x.2 ∙ (λ i. if_bound (bound i) (option_map (λ vni. fact.Vni vni s) (x.2 i)))),
+                  (network_at_row r rows sound s x.0 y x.1 x.2 ∙ (λ i. if_bound (bound i) (option_map (λ vni. fact.Vni vni s) (x.2 i)))),
               passes (s == s) y (number_itself s),
             )
 
@@ -193,7 +189,7 @@ module _ (r : Rows) (rows : IsRows r) (sound : Sound r) where
         there (fact.Mac switch mac place) y is e =
             let h = passed ((switch == s) && (mac == a)) place y e in
             let at : fact.Mac switch mac place ≡ fact.Mac s a y =
-                λ i. fact.Mac (number_same switch s (first_so (switch == s) (mac == a) h.0) i) (number_same mac a (second_so (switch == s) (mac == a) h.0) i) (h.1 i) in
+            λ i. fact.Mac (number_same switch s (first_so (switch == s) (mac == a) h.0) i) (number_same mac a (second_so (switch == s) (mac == a) h.0) i) (h.1 i) in
             sym same ∙ built_found r rows sound s a y (subst (λ f. IsIn f (built r)) at is)
         there (fact.Vni vni switch) y is e = cc
         there (fact.Bind port vlan switch lists) y is e = cc
@@ -225,7 +221,7 @@ module _ (r : Rows) (rows : IsRows r) (sound : Sound r) where
         there (fact.Flood switch group addresses) y is e =
             let h = passed ((switch == s) && same_group group g) addresses y e in
             let at : fact.Flood switch group addresses ≡ fact.Flood s g y =
-                λ i. fact.Flood (number_same switch s (first_so (switch == s) (same_group group g) h.0) i) (group_same group g (second_so (switch == s) (same_group group g) h.0) i) (h.1 i) in
+            λ i. fact.Flood (number_same switch s (first_so (switch == s) (same_group group g) h.0) i) (group_same group g (second_so (switch == s) (same_group group g) h.0) i) (h.1 i) in
             let f = said (fact.Flood s g y) (spot.Switch s (part.Group g)) (subst (λ f. IsIn f (built r)) at is) (λ j q. sym (its_place m j (fact.Flood s g y) q)) in
             flood_list g (flood_at m s g) y (if_so (is_bound_at m s) (flood_to s g (flood_at m s g)) (fact.Flood s g y) f).1
         there (fact.Vni vni switch) y is e = cc

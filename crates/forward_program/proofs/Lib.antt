@@ -19,3 +19,4 @@ pub mod Buts
 pub mod HopLaws
 pub mod PortLaws
 pub mod WayLaws
+pub mod RoomLaws

@@ -1,5 +1,5 @@
 -- The bindings of a switch that a walk finds are those of the facts, in order.
-use Rattle.std.proofs.Common.{◌≡◌, ◌⊎◌, inl, inr, ℕ, Bool, true, false, cond, T, List, [], ◌∷◌, map, Option, Some, None, refl, sym, ap, ◌∙◌, subst}
+use Rattle.std.proofs.Common.{◌≡◌, inl, inr, ℕ, true, false, cond, List, [], ◌∷◌, map, Option, Some, None, refl, sym, ap, ◌∙◌, subst}
 use Rattle.std.specs.Prelude.{◌==◌}
 use Rattle.std.specs.List.{filter_map}
 use Rattle.std.specs.Ordering.{nat_cmp, eq_by_cmp}
@@ -20,7 +20,7 @@ use Rattle.forward_program.specs.declared.held.Held.TheVariants as held
 use Rattle.forward_program.specs.declared.held.Lists.{Lists}
 use Rattle.forward_program.specs.declared.facts.Fact.{Fact}
 use Rattle.forward_program.specs.declared.facts.Fact.TheVariants as fact
-use Rattle.forward_program.specs.Built.{IsIn, Binding, bindings, bind_fact, acl_rows, built}
+use Rattle.forward_program.specs.Built.{IsIn, bind_fact, acl_rows, built}
 use Rattle.forward_program.specs.Spots.{Entries, spot_total}
 use Rattle.forward_program.specs.Shown.{shown}
 use Rattle.forward_program.specs.Joins.{Port, members_at, fact_at}
@@ -31,7 +31,7 @@ use Rattle.forward_program.proofs.SpotOrder.{spot_exact}
 use Rattle.forward_program.proofs.Walks.{member_there, there_member, members_in_order}
 use Rattle.forward_program.proofs.Unique.{at_given, given_at}
 use Rattle.forward_program.proofs.FactLaws.{said_built, bind_at, something}
-use Rattle.forward_program.proofs.HopLaws.{said, passed, passes, number_same, number_itself}
+use Rattle.forward_program.proofs.HopLaws.{said, passed, number_same, number_itself}
 use Rattle.forward_program.proofs.Once.{its_place}
 
 place_total : IsTotalOrder place_cmp

@@ -204,7 +204,7 @@ module _ (s : ℕ) where
       above port vlan lists is b h =
           let here : ◌≡◌ {A = Spot × Held} (member (port, vlan) lists) e = alone (step_found e (port, vlan) lists [] (subst (λ st. IsIn ((port, vlan), lists) (after_step st [])) (sym is) (inl refl))) in
           let less_than : spot_cmp e.0 (spot.Switch s (part.Member b.0.0 b.0.1)) ≡ Less =
-              below_in spot_cmp e.0 es (t_first (below_all spot_cmp e.0 es) (is_sorted spot_cmp es) sorted) (member b.0 b.1) (from_filter not_before (member b.0 b.1) es (found (filter not_before es) b.0 b.1 h)) in
+          below_in spot_cmp e.0 es (t_first (below_all spot_cmp e.0 es) (is_sorted spot_cmp es) sorted) (member b.0 b.1) (from_filter not_before (member b.0 b.1) es (found (filter not_before es) b.0 b.1 h)) in
           part_order_is (port, vlan) b.0 (ap (λ (x : Spot × Held). spot_cmp x.0 (spot.Switch s (part.Member b.0.0 b.0.1))) here ∙ less_than)
         where
           alone : {A : Type 0} → A ⊎ ⊥ → A

@@ -1,7 +1,7 @@
 -- Over the entries of sound rows a frame goes where the facts that are built from the rows say.
-use Rattle.std.proofs.Common.{◌≡◌, ℕ, Bool, true, false, List, Option, Some, None, Result, Ok, Err, refl, sym, ap, ◌∙◌, subst}
+use Rattle.std.proofs.Common.{◌≡◌, ℕ, true, Option, Some, None, Result, Ok, Err, refl, sym, ap, ◌∙◌, subst}
 use Rattle.std.specs.Prelude.{◌==◌, IfOk}
-use Rattle.std.specs.Option.{option_and_then, option_map}
+use Rattle.std.specs.Option.{option_map}
 use Rattle.std.proofs.lemmas.Bool.Decides.{Decides-eqb}
 use Rattle.vtep_base.specs.Reading.{Bytes}
 use Rattle.vtep_base.specs.Maps as maps
@@ -14,12 +14,11 @@ use Rattle.forward_program.specs.declared.facts.Fact.TheVariants as fact
 use Rattle.forward_program.specs.declared.hops.Origin.{Origin}
 use Rattle.forward_program.specs.declared.hops.Origin.TheVariants as origin
 use Rattle.forward_program.specs.declared.hops.Outcome.{Outcome}
-use Rattle.forward_program.specs.declared.hops.Outcome.TheVariants.{Unbound, NoVni}
 use Rattle.forward_program.specs.Built.{Binding, bindings, is_bound, if_bound, acl_rows, built}
 use Rattle.forward_program.specs.Spots.{Entries}
 use Rattle.forward_program.specs.Shown.{shown}
 use Rattle.forward_program.specs.Joins.{Port, Bound, bound_in, bound_at, network_at, of_in, is_bound_at}
-use Rattle.forward_program.specs.Hop.{Ways, Way, ways_at, ways_of, sent_on, from_port, from_tunnel, hop_by, hop, destination, source}
+use Rattle.forward_program.specs.Hop.{Ways, ways_at, ways_of, sent_on, from_port, from_tunnel, hop_by, hop, destination, source}
 use Rattle.forward_program.specs.Hops.{Hops}
 use Rattle.forward_program.specs.HopIs.{HopIs}
 use Rattle.forward_program.proofs.Unique.{some_of, map_of, at_given}

@@ -9,3 +9,5 @@ pub mod Hop
 pub mod Hops
 pub mod HopIs
 pub mod Sent
+pub mod BindingSpots
+pub mod Rooms

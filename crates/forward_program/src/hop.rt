@@ -1,6 +1,6 @@
 //! Where a frame goes by the forwarding state.
 
-ghost use Rattle.std.specs.Prelude.{◌≡◌, ◌++◌, [], ◌∷◌, false, None, IfOk, OnOk, OnErr, length};
+ghost use Rattle.std.specs.Prelude.{◌≡◌, ◌++◌, [], ◌∷◌, false, None, IfOk, IsOk, OnOk, OnErr, ◌≤◌, ◌<◌, ◌+◌, ◌^◌, length, count_by};
 ghost use Rattle.vtep_base.specs.Addresses.{be};
 ghost use Rattle.vtep_rows.specs.Rows.{Rows as AllRows, IsRows};
 ghost use Rattle.vtep_rows.specs.Sound.{Sound};
@@ -10,6 +10,7 @@ ghost use Rattle.forward_program.specs.Shown.{shown};
 ghost use Rattle.forward_program.specs.Joins.{flood_at, mode_at, addresses_at};
 ghost use Rattle.forward_program.specs.Hop.{destination, source, but, group_targets, flooded, tunnelled, place_of, ports_to, addresses_to, sent_on, hop, ways_at, ways_of};
 ghost use Rattle.forward_program.specs.HopIs.{HopIs};
+ghost use Rattle.forward_program.specs.Rooms.{HasRoom, KeepsRoom, Lacks, addresses_needed, is_binding};
 
 use crate::facts::Place;
 use crate::fib::Fib;
@@ -18,6 +19,9 @@ use crate::hops::{Hops, Origin, Outcome};
 use crate::looks::Step;
 use crate::spots::{Part, Spot};
 use vtep_base::{Inner, Ipv4, Ledger, Mac, Mode, Name, OutOfMemory, RowId, Vlan, Vni};
+
+/// The most locators of a set.
+const MOST_LOCATORS: usize = 64;
 
 fn mac_of(bytes: &[u8]) -> Mac
     requires { length bytes.now ≡ 6 }
@@ -48,6 +52,8 @@ fn push_other<L: Ledger>(
     ensures ports { OnOk result (out.new.ports ≡ out.old.ports ++ but from.now (port ∷ [])) }
     ensures addresses { out.new.addresses ≡ out.old.addresses }
     ensures vni { out.new.vni ≡ out.old.vni }
+    ensures kept { KeepsRoom out.old out.new }
+    ensures full { OnErr result (out.old.port_room ≤ length out.old.ports) }
 {
     if let Some(entered) = from {
         if port.0 == entered.0 && port.1 == entered.1 {
@@ -62,6 +68,8 @@ fn push_tunnel<L: Ledger>(ip: Ipv4, out: &mut Hops<L>) -> Result<(), OutOfMemory
     ensures addresses { OnOk result (out.new.addresses ≡ tunnelled out.old.vni (ip ∷ [])) }
     ensures ports { out.new.ports ≡ out.old.ports }
     ensures vni { out.new.vni ≡ out.old.vni }
+    ensures kept { KeepsRoom out.old out.new }
+    ensures full { OnErr result (out.old.address_room ≤ 0) }
 {
     if out.vni().is_none() {
         return Ok(());
@@ -80,6 +88,9 @@ impl<L: Ledger> Fib<L> {
             ++ but from.now ((ways_at self.now.entries).ports switch)) }
         ensures addresses { out.new.addresses ≡ out.old.addresses }
         ensures vni { out.new.vni ≡ out.old.vni }
+        ensures kept { KeepsRoom out.old out.new }
+        ensures full { OnErr result (out.old.port_room < length out.old.ports
+            + length ((ways_at self.now.entries).ports switch)) }
     {
         'members: for (spot, held) in self.entries.walk(Some(&Spot::Switch(switch, Part::Itself))) {
             match Step::of(switch, spot, held) {
@@ -103,6 +114,8 @@ impl<L: Ledger> Fib<L> {
             (out.new.addresses ≡ flood_at self.now.entries switch group) }
         ensures ports { out.new.ports ≡ out.old.ports }
         ensures vni { out.new.vni ≡ out.old.vni }
+        ensures kept { KeepsRoom out.old out.new }
+        ensures full { OnErr result (out.old.address_room < addresses_needed) }
     {
         match self.entries.find(&Spot::Switch(switch, Part::Group(group))) {
             Some(Held::Set(set)) => self.put_set_targets(switch, *set, out),
@@ -121,6 +134,8 @@ impl<L: Ledger> Fib<L> {
             ≡ targets (mode_at self.now.entries switch) (addresses_at self.now.entries set)) }
         ensures ports { out.new.ports ≡ out.old.ports }
         ensures vni { out.new.vni ≡ out.old.vni }
+        ensures kept { KeepsRoom out.old out.new }
+        ensures full { OnErr result (out.old.address_room < addresses_needed) }
     {
         self.put_addresses(set, &mut out.addresses)?;
         match self.mode(switch) {
@@ -141,6 +156,8 @@ impl<L: Ledger> Fib<L> {
             ≡ group_targets (ways_at self.now.entries) switch destination) }
         ensures ports { out.new.ports ≡ out.old.ports }
         ensures vni { out.new.vni ≡ out.old.vni }
+        ensures kept { KeepsRoom out.old out.new }
+        ensures full { OnErr result (out.old.address_room < addresses_needed) }
     {
         if destination.is_group() {
             self.put_targets(switch, Some(destination), out)
@@ -160,6 +177,8 @@ impl<L: Ledger> Fib<L> {
             ≡ flooded (ways_at self.now.entries) switch destination) }
         ensures ports { out.new.ports ≡ out.old.ports }
         ensures vni { out.new.vni ≡ out.old.vni }
+        ensures kept { KeepsRoom out.old out.new }
+        ensures full { OnErr result (out.old.address_room < addresses_needed) }
     {
         self.put_group_targets(switch, destination, out)?;
         if out.addresses().is_empty() {
@@ -182,6 +201,8 @@ impl<L: Ledger> Fib<L> {
         ensures addresses { OnOk result (out.new.addresses
             ≡ addresses_to (ways_at self.now.entries) switch out.old.vni destination None) }
         ensures vni { out.new.vni ≡ out.old.vni }
+        ensures kept { KeepsRoom out.old out.new }
+        ensures full { OnErr result (Lacks self.now.entries out.old) }
     {
         self.flood_ports(switch, from, out)?;
         if out.vni().is_none() {
@@ -215,6 +236,8 @@ impl<L: Ledger> Fib<L> {
             ≡ addresses_to (ways_at self.now.entries) switch out.old.vni destination
             (place_of (ways_at self.now.entries) switch destination)) }
         ensures vni { out.new.vni ≡ out.old.vni }
+        ensures kept { KeepsRoom out.old out.new }
+        ensures full { OnErr result (Lacks self.now.entries out.old) }
     {
         match &self.known(switch, destination) {
             None => self.flood(switch, from, destination, out),
@@ -233,8 +256,10 @@ impl<L: Ledger> Fib<L> {
     ) -> Result<Outcome, OutOfMemory>
         requires ports { out.old.ports ≡ [] }
         requires addresses { out.old.addresses ≡ [] }
-        ensures { IfOk result (λ outcome. HopIs outcome out.new
+        ensures way { IfOk result (λ outcome. HopIs outcome out.new
             (sent_on (ways_at self.now.entries) switch from.now out.old.vni destination source)) }
+        ensures kept { KeepsRoom out.old out.new }
+        ensures full { OnErr result (Lacks self.now.entries out.old) }
     {
         if destination != source {
             self.forward(switch, from, destination, out)?;
@@ -252,8 +277,10 @@ impl<L: Ledger> Fib<L> {
         requires ports { out.old.ports ≡ [] }
         requires addresses { out.old.addresses ≡ [] }
         requires vni { out.old.vni ≡ None }
-        ensures { IfOk result (λ outcome. HopIs outcome out.new
+        ensures way { IfOk result (λ outcome. HopIs outcome out.new
             (hop (ways_at self.now.entries) (Origin.Port port vlan) inner.now)) }
+        ensures kept { KeepsRoom out.old out.new }
+        ensures full { OnErr result (Lacks self.now.entries out.old) }
     {
         match self.bound(port, vlan) {
             Some(bound) => {
@@ -274,13 +301,13 @@ impl<L: Ledger> Fib<L> {
         requires ports { out.old.ports ≡ [] }
         requires addresses { out.old.addresses ≡ [] }
         requires vni { out.old.vni ≡ None }
-        ensures { IfOk result (λ outcome. HopIs outcome out.new
+        ensures way { IfOk result (λ outcome. HopIs outcome out.new
             (hop (ways_at self.now.entries) (Origin.Tunnel vni) inner.now)) }
+        ensures kept { KeepsRoom out.old out.new }
+        ensures full { OnErr result (Lacks self.now.entries out.old) }
     {
         match self.network(vni) {
-            Some(switch) => {
-                self.send_on(switch, &None, destination(inner), source(inner), out)
-            }
+            Some(switch) => { self.send_on(switch, &None, destination(inner), source(inner), out) }
             None => Ok(Outcome::NoVni),
         }
     }
@@ -291,8 +318,10 @@ impl<L: Ledger> Fib<L> {
         inner: &Inner<'_>,
         out: &mut Hops<L>,
     ) -> Result<Outcome, OutOfMemory>
-        ensures { IfOk result (λ outcome. HopIs outcome out.new
+        ensures way { IfOk result (λ outcome. HopIs outcome out.new
             (hop (ways_at self.now.entries) origin.now inner.now)) }
+        ensures kept { KeepsRoom out.old out.new }
+        ensures full { OnErr result (Lacks self.now.entries out.old) }
     {
         out.clear();
         match origin {
@@ -319,7 +348,33 @@ impl<L: Ledger> Fib<L> {
         ensures built { (r : AllRows) → IsRows r → Sound r → self.now.entries ≡ shown r
             → IfOk result (λ outcome. HopIs outcome out.new
             (hop (ways_of (built r)) origin.now inner.now)) }
+        ensures kept { KeepsRoom out.old out.new }
+        // Where there is room it takes no memory.
+        ensures fits { HasRoom self.now.entries out.old → IsOk result }
     {
         self.hop_from(origin, inner, out)
+    }
+
+    fn bindings(&self) -> usize
+        ensures count { result ≡ count_by is_binding self.now.entries.list }
+        ensures small { result < 2 ^ 63 }
+    {
+        let mut count: usize = 0;
+        'entries: for (spot, _) in self.entries.walk(None) {
+            if spot.is_binding() {
+                count += 1;
+            }
+        }
+        count
+    }
+
+    /// Makes so much room that a hop by this state takes no memory: for one port more than there are bindings, and for as many
+    /// addresses as a locator set has at most.
+    pub fn reserve_hops(&self, out: &mut Hops<L>) -> Result<(), OutOfMemory>
+        requires going { self.now.broken ≡ false }
+        ensures room { OnOk result (HasRoom self.now.entries out.new) }
+        ensures kept { KeepsRoom out.old out.new }
+    {
+        out.reserve(self.bindings() + 1, MOST_LOCATORS)
     }
 }

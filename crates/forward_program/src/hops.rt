@@ -1,7 +1,7 @@
 //! Where a frame goes.
 
 ghost use Rattle.std.specs.Prelude.{◌≡◌, ◌++◌, [], ◌∷◌, None, OnOk, OnErr, ◌≤◌, length};
-ghost use Rattle.forward_program.specs.Hops.{Hops as Handed};
+ghost use Rattle.forward_program.specs.Rooms.{KeepsRoom};
 
 use std::alloc::Global;
 use std::marker::{Model, PhantomData};
@@ -47,9 +47,13 @@ impl<L: Ledger> Model for Hops<L> {
 
     ghost coded = { hops_code };
 
-    ghost view = { λ h. record
-        { ports = h.ports.items; addresses = h.addresses.items; vni = h.vni
-        ; port_room = vec_capacity h.ports; address_room = vec_capacity h.addresses } };
+    ghost view = { λ h. record {
+      ports = h.ports.items;
+      addresses = h.addresses.items;
+      vni = h.vni;
+      port_room = vec_capacity h.ports;
+      address_room = vec_capacity h.addresses;
+    } };
 }
 
 impl<L: Ledger> Hops<L> {
@@ -127,6 +131,18 @@ impl<L: Ledger> Hops<L> {
         ensures full { OnErr result (self.old.address_room ≤ length self.old.addresses) }
     {
         self.addresses.push(ip)?;
+        Ok(())
+    }
+
+    pub(crate) fn reserve(&mut self, ports: usize, addresses: usize) -> Result<(), OutOfMemory>
+        ensures lists { OnOk result ((self.new.ports ≡ self.old.ports)
+            × (self.new.addresses ≡ self.old.addresses) × (self.new.vni ≡ self.old.vni)) }
+        ensures ports { OnOk result (ports ≤ self.new.port_room) }
+        ensures addresses { OnOk result (addresses ≤ self.new.address_room) }
+        ensures kept { KeepsRoom self.old self.new }
+    {
+        self.ports.reserve(ports)?;
+        self.addresses.reserve(addresses)?;
         Ok(())
     }
 }

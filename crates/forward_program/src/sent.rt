@@ -190,12 +190,7 @@ impl<L: Ledger> Sent<L> {
 
     /// The frame as it leaves each port, and a packet with it to each address, in place of what was there. After an `Err` there
     /// is nothing.
-    pub fn fill(
-        &mut self,
-        hops: &Hops<L>,
-        own: Ipv4,
-        inner: &Inner<'_>,
-    ) -> Result<(), OutOfMemory>
+    pub fn fill(&mut self, hops: &Hops<L>, own: Ipv4, inner: &Inner<'_>) -> Result<(), OutOfMemory>
         requires least { 14 ≤ length inner.now }
         requires most { length inner.now ≤ 9216 }
         requires untagged { tag_at inner.now 12 ≡ false }

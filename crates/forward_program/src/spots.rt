@@ -1,5 +1,8 @@
 //! The places of the forwarding state.
 
+ghost use Rattle.std.specs.Prelude.{◌≡◌};
+ghost use Rattle.forward_program.specs.BindingSpots.{is_binding_spot};
+
 use vtep_base::{Mac, Name, RowId, Vlan, Vni};
 
 /// What belongs to a switch, in this order.
@@ -31,4 +34,13 @@ pub enum Spot {
     Locator(RowId),
     /// An ACL.
     Acl(RowId),
+}
+
+impl Spot {
+    /// Whether it is a VLAN of a port, or a member of a switch.
+    pub(crate) fn is_binding(&self) -> bool
+        ensures { result ≡ is_binding_spot self.now }
+    {
+        matches!(self, Spot::Port(..) | Spot::Switch(_, Part::Member(..)))
+    }
 }

@@ -1,7 +1,8 @@
-use Rattle.std.proofs.Common.{◌≡◌, ◌++◌, map}
+use Rattle.std.proofs.Common.{◌≡◌, ◌≤◌, ◌+◌, ◌++◌, length, map}
 use Rattle.forward_program.specs.declared.held.Lists.{Lists}
 use Rattle.forward_program.specs.Joins.{Port, members_from}
 use Rattle.forward_program.specs.Hop.{but, ways_at}
+use Rattle.forward_program.specs.Rooms.{KeepsRoom}
 use Rattle.forward_program.proofs.fib.Fib.flood_ports.Given as goal
 
 abbrev pub invariant-members : goal.invariant-members
@@ -9,4 +10,6 @@ invariant-members g l = record {
   ports : l.out.ports ++ but l.from (map (λ (b : Port × Lists). b.0) (members_from l.switch l.spot-iterator)) ≡ l.initial.out.ports ++ but l.from ((ways_at l.self.entries).ports l.switch);
   addresses : l.out.addresses ≡ l.initial.out.addresses;
   vni : l.out.vni ≡ l.initial.out.vni;
+  kept : KeepsRoom l.initial.out l.out;
+  count : length l.out.ports + length (members_from l.switch l.spot-iterator) ≤ length l.initial.out.ports + length ((ways_at l.self.entries).ports l.switch);
 }
