@@ -343,23 +343,6 @@ impl<L: Ledger> Fib<L> {
         Ok(())
     }
 
-    /// The forwarding state of sound rows with an own address.
-    pub fn build(alloc: Global, rows: &Rows, steps: &mut Steps<L>) -> Result<Fib<L>, OutOfMemory>
-        requires sound { Sound rows.now }
-        requires own { IsSome (own_address rows.now) }
-        ensures state { IfOk result
-            (λ fib. fib ≡ record { entries = shown rows.now; broken = false }) }
-        // It says what is built from the rows.
-        ensures built { IfOk result (λ fib. (f : Fact)
-            → IsIn f (facts_of fib.entries) ↔ IsIn f (built rows.now)) }
-    {
-        // It says that each row is one of its table.
-        let _ = rows.counter();
-        let mut fib = Fib::new(alloc);
-        fib.fill(alloc, rows, steps)?;
-        Ok(fib)
-    }
-
     fn first(&self) -> Option<Spot>
         ensures { result ≡ first (maps.keys self.now.entries) }
     {
@@ -412,4 +395,25 @@ impl<L: Ledger> Fib<L> {
         self.set_broken(false);
         Ok(())
     }
+}
+
+/// The forwarding state of sound rows with an own address.
+pub fn build<L: Ledger>(
+    alloc: Global,
+    rows: &Rows,
+    steps: &mut Steps<L>,
+) -> Result<Fib<L>, OutOfMemory>
+    requires sound { Sound rows.now }
+    requires own { IsSome (own_address rows.now) }
+    ensures state { IfOk result
+        (λ fib. fib ≡ record { entries = shown rows.now; broken = false }) }
+    // It says what is built from the rows.
+    ensures built { IfOk result (λ fib. (f : Fact)
+        → IsIn f (facts_of fib.entries) ↔ IsIn f (built rows.now)) }
+{
+    // It says that each row is one of its table.
+    let _ = rows.counter();
+    let mut fib = Fib::new(alloc);
+    fib.fill(alloc, rows, steps)?;
+    Ok(fib)
 }

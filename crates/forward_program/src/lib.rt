@@ -13,7 +13,7 @@ mod sent;
 mod spots;
 
 pub use facts::{Fact, Place};
-pub use fib::Fib;
+pub use fib::{Fib, build};
 pub use held::{Few, Held, Lists};
 pub use hops::{Hops, Origin, Outcome};
 pub use laws::facts_are_built;

@@ -1,7 +1,7 @@
 //! The facts of forwarding states.
 
 use crate::faults::CaseFault;
-use forward_program::{Fact, Fib, Place, own_address};
+use forward_program::{Fact, Fib, Place, build, own_address};
 use std::alloc::Global;
 use vtep_base::{Bytes, Ipv4, Mac, Plain, RowId, Steps};
 use vtep_rows::{Rows, changes};
@@ -94,13 +94,21 @@ fn say_facts(alloc: Global, fib: &Fib<Plain>, answer: &mut Bytes) -> Result<(), 
     Ok(())
 }
 
-/// Adds the facts of the state of these rows.
-pub fn built(alloc: Global, rows: &Rows, answer: &mut Bytes) -> Result<(), CaseFault> {
+/// The forwarding state of rows, where they are sound.
+pub fn sound_state(alloc: Global, rows: &Rows) -> Result<Fib<Plain>, CaseFault> {
+    let Ok(()) = rows.check() else {
+        return Err(CaseFault::Form);
+    };
     if own_address(rows).is_none() {
         return Err(CaseFault::Form);
     }
     let mut steps = Steps::new(Plain);
-    let fib = Fib::build(alloc, rows, &mut steps)?;
+    Ok(build(alloc, rows, &mut steps)?)
+}
+
+/// Adds the facts of the state of these rows.
+pub fn built(alloc: Global, rows: &Rows, answer: &mut Bytes) -> Result<(), CaseFault> {
+    let fib = sound_state(alloc, rows)?;
     say_facts(alloc, &fib, answer)
 }
 
@@ -111,14 +119,14 @@ pub fn applied(
     rows: &Rows,
     answer: &mut Bytes,
 ) -> Result<(), CaseFault> {
-    if own_address(before).is_none() || own_address(rows).is_none() {
+    let mut fib = sound_state(alloc, before)?;
+    let Ok(()) = rows.check() else {
+        return Err(CaseFault::Form);
+    };
+    if fib.broken() || own_address(rows).is_none() {
         return Err(CaseFault::Form);
     }
     let mut steps = Steps::new(Plain);
-    let mut fib = Fib::build(alloc, before, &mut steps)?;
-    if fib.broken() {
-        return Err(CaseFault::Form);
-    }
     let change = changes(alloc, before, rows)?;
     fib.apply(alloc, rows, &change, &mut steps)?;
     say_facts(alloc, &fib, answer)

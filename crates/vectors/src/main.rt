@@ -13,6 +13,7 @@ mod facts;
 mod faults;
 mod frames;
 mod header_fields;
+mod hops;
 mod learning;
 mod lines;
 mod locators;

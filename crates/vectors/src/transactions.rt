@@ -1,9 +1,9 @@
 //! Transactions and their result arrays.
 
-use crate::facts;
 use crate::faults::CaseFault;
 use crate::lines::{say, text};
 use crate::opening::Opening;
+use crate::{facts, hops};
 use serde_json::Value;
 use std::alloc::Global;
 use transact_profile::{finish, read_ops, transact};
@@ -55,8 +55,8 @@ impl Transactions {
 
     /// Adds what each line gives: `gateway` and `ports` say at which rows the transactions behind them begin, `counter` asks for
     /// the greatest row number, `facts` for those of the forwarding state of the rows, and `applied` for those of the state
-    /// that follows from the one before the last transaction. Every other line is the operations of a transaction. Behind
-    /// `then` they go on at the rows that the last ones left.
+    /// that follows from the one before the last transaction; `hop` and `tunnel` ask where a frame goes by it. Every other line
+    /// is the operations of a transaction. Behind `then` they go on at the rows that the last ones left.
     pub fn answer(
         &mut self,
         alloc: Global,
@@ -70,6 +70,12 @@ impl Transactions {
     }
 
     fn take(&mut self, alloc: Global, line: &str, answer: &mut Bytes) -> Result<(), CaseFault> {
+        if let Some(entering) = line.strip_prefix("hop ") {
+            return hops::from_port(alloc, &self.rows, entering, answer);
+        }
+        if let Some(arriving) = line.strip_prefix("tunnel ") {
+            return hops::from_tunnel(alloc, &self.rows, arriving, answer);
+        }
         match line {
             "gateway" => self.opening = Opening::Gateway,
             "ports" => self.opening = Opening::Ports,

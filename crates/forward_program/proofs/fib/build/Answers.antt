@@ -3,7 +3,7 @@ use Rattle.vtep_rows.specs.Row.{put_all}
 use Rattle.forward_program.specs.Spots.{State}
 use Rattle.forward_program.specs.Shown.{all_entries}
 use Rattle.forward_program.proofs.Told.{state_told}
-use Rattle.forward_program.proofs.fib.Fib.build.Goals as goal
+use Rattle.forward_program.proofs.fib.build.Goals as goal
 
 pub returns-clause-built : goal.returns-clause-built
 returns-clause-built g c =
