@@ -337,22 +337,22 @@ impl<L: Ledger> Fib<L> {
     /// destinations that are not known.
     pub fn hop(
         &self,
-        origin: &Origin,
+        origin: Origin,
         inner: &Inner<'_>,
         out: &mut Hops<L>,
     ) -> Result<Outcome, OutOfMemory>
         requires going { self.now.broken ≡ false }
         ensures way { IfOk result (λ outcome. HopIs outcome out.new
-            (hop (ways_at self.now.entries) origin.now inner.now)) }
+            (hop (ways_at self.now.entries) origin inner.now)) }
         // Of sound rows it goes where the facts say that are built from the rows.
         ensures built { (r : AllRows) → IsRows r → Sound r → self.now.entries ≡ shown r
             → IfOk result (λ outcome. HopIs outcome out.new
-            (hop (ways_of (built r)) origin.now inner.now)) }
+            (hop (ways_of (built r)) origin inner.now)) }
         ensures kept { KeepsRoom out.old out.new }
         // Where there is room it takes no memory.
         ensures fits { HasRoom self.now.entries out.old → IsOk result }
     {
-        self.hop_from(origin, inner, out)
+        self.hop_from(&origin, inner, out)
     }
 
     fn bindings(&self) -> usize

@@ -41,7 +41,7 @@ fn say_hops(hops: &Hops<Plain>, answer: &mut Bytes) -> Result<(), CaseFault> {
 fn hop(
     alloc: Global,
     rows: &Rows,
-    origin: &Origin,
+    origin: Origin,
     inner: &Inner<'_>,
     answer: &mut Bytes,
 ) -> Result<(), CaseFault> {
@@ -75,7 +75,7 @@ pub fn from_port(
     };
     let bytes = bytes(alloc, frame)?;
     match read(bytes.as_slice()) {
-        Ok(frame) => hop(alloc, rows, &origin, &frame.inner, answer),
+        Ok(frame) => hop(alloc, rows, origin, &frame.inner, answer),
         Err(_) => Err(CaseFault::Form),
     }
 }
@@ -93,7 +93,7 @@ pub fn from_tunnel(
     };
     let bytes = bytes(alloc, frame)?;
     match read(bytes.as_slice()) {
-        Ok(frame) => hop(alloc, rows, &origin, &frame.inner, answer),
+        Ok(frame) => hop(alloc, rows, origin, &frame.inner, answer),
         Err(_) => Err(CaseFault::Form),
     }
 }
