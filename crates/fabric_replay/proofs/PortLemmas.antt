@@ -8,7 +8,7 @@ use Rattle.vtep_base.specs.Maps as maps
 use Rattle.vtep_gateway.specs.Gateway.{Held}
 use Rattle.vtep_gateway.proofs.Refused.{refused_stays}
 use Rattle.vtep_gateway.specs.Moves as moves
-use Rattle.vtep_gateway.specs.declared.Answer.{Answer}
+use Rattle.vtep_gateway.specs.Gateway.{Answer}
 use Rattle.vtep_gateway.specs.declared.Event.{Event}
 use Rattle.vtep_gateway.specs.declared.Event.TheVariants as event
 use Rattle.vtep_gateway.specs.declared.EventRefused.{EventRefused}

@@ -4,7 +4,7 @@ use Rattle.vtep_base.specs.Reading.{Bytes}
 use Rattle.vtep_base.specs.Maps as maps
 use Rattle.vtep_gateway.specs.Gateway as vtep
 use Rattle.vtep_gateway.specs.Moves.{hung_up}
-use Rattle.vtep_gateway.specs.declared.Answer.{Answer}
+use Rattle.vtep_gateway.specs.Gateway.{Answer}
 use Rattle.vtep_gateway.specs.declared.Event.{Event}
 use Rattle.vtep_gateway.specs.declared.Event.TheVariants as event
 use Rattle.vtep_gateway.specs.declared.EventRefused.TheVariants.{NoSession}

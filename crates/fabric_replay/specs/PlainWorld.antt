@@ -11,7 +11,7 @@ use Rattle.fabric_world.specs.declared.Fault.{Fault}
 use Rattle.vtep_gateway.specs.Gateway as vtep
 use Rattle.vtep_gateway.specs.Gateway.{Held}
 use Rattle.vtep_gateway.specs.Moves as moves
-use Rattle.vtep_gateway.specs.declared.Answer.{Answer}
+use Rattle.vtep_gateway.specs.Gateway.{Answer}
 use Rattle.vtep_gateway.specs.declared.Event.{Event}
 use Rattle.fabric_world.specs.World.{World, Site, bytes_cmp, fault, step, outputs, outputs_text}
 use Rattle.fabric_replay.specs.declared.plain.Plain.{Plain}

@@ -15,7 +15,7 @@ use fabric_world::{Fault, Line, Network};
 use itoa::Buffer;
 use std::alloc::Global;
 use std::collections::BTreeMap;
-use vtep_base::{Binding, Bytes, Inner, Ipv4, Mode, Name, OutOfMemory, Vlan, Vni};
+use vtep_base::{Binding, Bytes, Inner, Ipv4, Mode, Name, OutOfMemory, Steps, Vlan, Vni};
 use vtep_gateway::{Answer, Event, EventRefused, Gateway};
 use vxlan_frames::{Packet, PacketFault, PacketKind, decode};
 
@@ -33,7 +33,7 @@ pub(crate) struct Plain {
     ports: Vec<Name>,
     installed: Vec<(Binding, Name)>,
     /// Answers sessions, beside the ports and bindings.
-    gateway: Option<Gateway>,
+    gateway: Option<Gateway<vtep_base::Plain>>,
     switches: BTreeMap<Name, Network>,
     bindings: BTreeMap<Binding, Name>,
 }
@@ -439,7 +439,7 @@ impl Plain {
     }
 
     /// Gives an event to the gateway.
-    fn step(&mut self, event: &Event) -> Result<Answer, OutOfMemory>
+    fn step(&mut self, event: &Event) -> Result<Answer<vtep_base::Plain>, OutOfMemory>
         ensures { IfOk result (λ answer. Answered self.old self.new event.now answer) }
     {
         let Some(mut gateway) = self.gateway.take() else {
@@ -448,7 +448,7 @@ impl Plain {
         if gateway.stopped() {
             return Err(OutOfMemory);
         }
-        let answer = gateway.step(event)?;
+        let answer = gateway.step(event, &mut Steps::new(vtep_base::Plain))?;
         self.gateway = Some(gateway);
         Ok(answer)
     }

@@ -5,7 +5,7 @@ ghost use Rattle.fabric_world.specs.World.{framing_kind_text, output_text, outpu
 
 use itoa::Buffer;
 use rpc_framing::{Framing, FramingKind};
-use vtep_base::{Bytes, Name, OutOfMemory};
+use vtep_base::{Bytes, Name, OutOfMemory, Plain};
 use vtep_gateway::{Answer, Outgoing};
 
 fn framing_kind_text(kind: &FramingKind) -> &[u8]
@@ -80,7 +80,7 @@ pub(crate) fn write_messages(
 pub(crate) fn write_answer(
     gateway: &Name,
     session: u32,
-    answer: &Answer,
+    answer: &Answer<Plain>,
     out: &mut Bytes,
 ) -> Result<(), OutOfMemory>
     ensures { OnOk result (out.new ≡ out.old

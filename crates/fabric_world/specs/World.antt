@@ -29,7 +29,7 @@ use Rattle.vtep_gateway.specs.Gateway as vtep
 use Rattle.vtep_gateway.specs.Moves as moves
 use Rattle.vtep_gateway.specs.declared.Event.{Event}
 use Rattle.vtep_gateway.specs.declared.Event.TheVariants as event
-use Rattle.vtep_gateway.specs.declared.Answer.{Answer}
+use Rattle.vtep_gateway.specs.Gateway.{Answer}
 use Rattle.vtep_gateway.specs.declared.EventRefused.{EventRefused}
 use Rattle.vtep_gateway.specs.declared.EventRefused.TheVariants as event_refused
 use Rattle.vtep_gateway.specs.declared.Outgoing.{Outgoing}

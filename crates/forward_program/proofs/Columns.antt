@@ -71,7 +71,7 @@ only_text (Id u ∷ []) t few is = cc
 only_text (Named u ∷ []) t few is = cc
 only_text (x ∷ y ∷ xs) t few is = absurd (two (length xs) few)
 
-id_is : (x : Atom) (u : ℕ) → id_in x ≡ Some u → x ≡ Id u
+pub id_is : (x : Atom) (u : ℕ) → id_in x ≡ Some u → x ≡ Id u
 id_is (Integer z) u is = cc
 id_is (Text t) u is = cc
 id_is (Id v) u is = ap (λ o. Id (unwrap_or o u)) is

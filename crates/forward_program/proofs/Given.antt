@@ -94,7 +94,7 @@ module _ (r : Rows) where
 
   -- ---- what is given is listed
 
-  by_row : (e : Entry) (t : Table) (id : ℕ) (row : Contents) → IsIn t forward_tables → row_at r (t, id) ≡ Some row → IsIn e (row_entries (own_ip r) t (id, row)) → IsIn e (all_entries r)
+  pub by_row : (e : Entry) (t : Table) (id : ℕ) (row : Contents) → IsIn t forward_tables → row_at r (t, id) ≡ Some row → IsIn e (row_entries (own_ip r) t (id, row)) → IsIn e (all_entries r)
   by_row e t id row is at h = flat_in (table_entries r) e t forward_tables is (flat_in (row_entries (own_ip r) t) e (id, row) (rows_of t r) (rows_in r t id row at) h)
 
   by_binding : (e : Entry) (b : Binding) → IsIn b (bindings r) → IsIn e (binding_entries b) → IsIn e (all_entries r)

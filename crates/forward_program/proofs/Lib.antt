@@ -10,6 +10,15 @@ pub mod Given
 pub mod MapLists
 pub mod Columns
 pub mod Unique
+pub mod PairSearch
+pub mod PortAt
+pub mod Homes
+pub mod InChange
+pub mod Clearing
+pub mod Followed
+pub mod SameLaws
+pub mod Moves
+pub mod ClearRows
 pub mod Walks
 pub mod JoinLaws
 pub mod FactLaws

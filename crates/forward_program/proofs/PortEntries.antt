@@ -3,6 +3,7 @@ use Rattle.std.proofs.Common.{◌≡◌, Result, OnOk, ℕ, pos, negsuc, Bool, t
 use Rattle.std.proofs.lemmas.Bool.Decides.{nat_tests}
 use Rattle.std.specs.Prelude.{◌==◌, int_lt}
 use Rattle.std.specs.List.{list_all, filter_map, flat_map, cons_option, AllByRecursion}
+use Rattle.std.specs.Option.{unwrap_or}
 use Rattle.std.specs.List.Sorted.{IsStrictlySortedBy}
 use Rattle.std.specs.Map.{keys_of}
 use Rattle.std.specs.Cmp.{first_so, second_so, nat_cmp_total}
@@ -21,8 +22,9 @@ use Rattle.ovsdb_values.specs.declared.datums.Datum.TheVariants as datum
 use Rattle.vtep_schema.specs.declared.Table.TheVariants.{LogicalSwitch}
 use Rattle.vtep_schema.specs.declared.rules.Domain.TheVariants as domain
 use Rattle.vtep_schema.specs.declared.Column.TheVariants.{PortVlanBindings, LogicalTunnelKey}
-use Rattle.vtep_rows.specs.Row.{Contents, allowed, atom_allowed, value_at, pairs_at, map_in, number_at, put_all}
+use Rattle.vtep_rows.specs.Row.{Contents, allowed, atom_allowed, is_row, pairs_at, map_in, number_at, put_all}
 use Rattle.vtep_rows.proofs.Entries.{all_so}
+use Rattle.vtep_rows.proofs.RowLaws.{value_allowed}
 use Rattle.forward_program.specs.Readings.{number_and_id, is_vlan, is_vlan_key, port_name, vlan_bindings, lists_at, mode_of}
 use Rattle.forward_program.specs.Built.{binding, bindings_with, bindings_of}
 use Rattle.forward_program.proofs.Puts.{ok_so}
@@ -42,12 +44,19 @@ small_key (Text t) h = refl
 small_key (Id u) h = refl
 small_key (Named t) h = refl
 
-pub vlans : (d : Datum) (ps qs : List (Atom × Atom)) → allowed PortVlanBindings d ≡ true → d ≡ datum.Map ps → qs ≡ ps → list_all is_vlan qs ≡ true
-vlans d ps qs h is same =
-    ap (list_all is_vlan) same
-    ∙ all_so (λ p. atom_allowed (domain.Whole 0 4095) p.0 && atom_allowed (domain.Row LogicalSwitch) p.1) is_vlan
+all_small : (ps : List (Atom × Atom)) → allowed PortVlanBindings (datum.Map ps) ≡ true → list_all is_vlan ps ≡ true
+all_small ps h =
+    all_so (λ p. atom_allowed (domain.Whole 0 4095) p.0 && atom_allowed (domain.Row LogicalSwitch) p.1) is_vlan
     (λ p pass. small_key p.0 (first_so (atom_allowed (domain.Whole 0 4095) p.0) (atom_allowed (domain.Row LogicalSwitch) p.1) pass)) ps
-    (second_so _ _ (ap (allowed PortVlanBindings) (sym is) ∙ h))
+    (second_so _ _ h)
+
+pub vlans : (row : Contents) (ps : List (Atom × Atom)) → is_row row ≡ true → ps ≡ pairs_at row PortVlanBindings → list_all is_vlan ps ≡ true
+vlans row ps is same = ap (list_all is_vlan) same ∙ by (maps.get row.values PortVlanBindings) refl
+  where
+    by : (o : Option Datum) → maps.get row.values PortVlanBindings ≡ o → list_all is_vlan (map_in (unwrap_or o (datum.Set []))) ≡ true
+    by None e = refl
+    by (Some (datum.Set xs)) e = refl
+    by (Some (datum.Map qs)) e = all_small qs (value_allowed row PortVlanBindings (datum.Map qs) is e)
 
 -- ---- pairs in the order of their keys
 
@@ -79,12 +88,11 @@ pairs_are port row [] = refl
 pairs_are port row (p ∷ ps) =
     ap (λ es. pair_entries port row (number_and_id p) ++ es) (pairs_are port row ps) ∙ pair_is port row (number_and_id p) (filter_map number_and_id ps)
 
-pub port_is : (row : Contents) (port : Bytes) (d : Datum) (ps qs : List (Atom × Atom)) → Some port ≡ port_name row → d ≡ value_at row PortVlanBindings → d ≡ datum.Map ps → qs ≡ ps → IsStrictlySortedBy atom_cmp (keys_of qs)
+pub port_is : (row : Contents) (port : Bytes) (qs : List (Atom × Atom)) → Some port ≡ port_name row → qs ≡ pairs_at row PortVlanBindings → IsStrictlySortedBy atom_cmp (keys_of qs)
     → flat_map (λ p. pair_entries port row (number_and_id p)) qs ≡ flat_map binding_entries (bindings_of row)
-port_is row port d ps qs named value is same sorted =
-    let all : pairs_at row PortVlanBindings ≡ qs = ap map_in (sym value ∙ is) ∙ sym same in
+port_is row port qs named all sorted =
     let kept : vlan_bindings row ≡ filter_map number_and_id qs =
-    ap (λ xs. (maps.map_by nat_cmp (filter_map number_and_id xs)).list) all ∙ list-of_list nat_cmp_total (filter_map number_and_id qs) (numbers_sorted qs sorted) in
+    ap (λ xs. (maps.map_by nat_cmp (filter_map number_and_id xs)).list) (sym all) ∙ list-of_list nat_cmp_total (filter_map number_and_id qs) (numbers_sorted qs sorted) in
     pairs_are port row qs ∙ ap (λ bs. flat_map binding_entries (map (binding port row) bs)) (sym kept) ∙ ap (λ o. flat_map binding_entries (bindings_with row o)) named
 
 pub pair_put : (r : Result (Unit {0}) OutOfMemory) (m n : Entries) (port : Bytes) (row : Contents) (bound : ℕ × ℕ) (lists : Lists) (o : Option (ℕ × ℕ))

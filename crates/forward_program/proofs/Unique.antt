@@ -66,6 +66,104 @@ second_key false q e = ap (λ b. b || false) e
 only_key : (q : Bool) → q ≡ true → (q || false) ≡ true
 only_key q e = ap (λ b. b || false) e
 
+-- ports by their names
+pub port_text : (row : Contents) (p : Bytes) → port_name row ≡ Some p → text_in_row row PortName ≡ Some p
+port_text row p is =
+    let x = some_of name_of (text_in_row row PortName) p is in
+    x.1 ∙ ap Some (sym (name_read_is_printed x.0 p x.2))
+
+-- remote rows by switch and address
+pub remote_parts : (row : Contents) (x : Remote) → remote_of row ≡ Some x → (id_at row UcastRemoteLogicalSwitch ≡ Some x.switch) × (mac_at row UcastRemoteMac ≡ Some x.mac) × (id_at row UcastRemoteLocator ≡ Some x.locator)
+remote_parts row x is =
+    let s = some_of (λ switch. option_and_then (λ mac. option_map (remote switch mac) (id_at row UcastRemoteLocator)) (mac_at row UcastRemoteMac)) (id_at row UcastRemoteLogicalSwitch) x is in
+    let m = some_of (λ mac. option_map (remote s.0 mac) (id_at row UcastRemoteLocator)) (mac_at row UcastRemoteMac) x s.2 in
+    let l = map_of (remote s.0 m.0) (id_at row UcastRemoteLocator) x m.2 in
+    (s.1 ∙ ap (λ (y : Remote). Some y.switch) (sym l.2), m.1 ∙ ap (λ (y : Remote). Some y.mac) (sym l.2), l.1 ∙ ap (λ (y : Remote). Some y.locator) (sym l.2))
+
+single_text : (row : Contents) (m : ℕ) → is_row row ≡ true → mac_at row UcastRemoteMac ≡ Some m → atoms_at row UcastRemoteMac ≡ Text (mac_text m) ∷ []
+single_text row m is e =
+    let x = some_of mac_of (text_in_row row UcastRemoteMac) m e in
+    let alone : atoms_at row UcastRemoteMac ≡ Text x.0 ∷ [] = text_alone row UcastRemoteMac is refl x.0 x.1 in
+    let fits : (text_allowed domain.SingleMac x.0 && true) ≡ true = ap (list_all (atom_allowed domain.SingleMac)) (sym alone) ∙ (atoms_fit row UcastRemoteMac is).each in
+    let low : is_lower x.0 ≡ true = second_so (passes _ (mac_of x.0)) (is_lower x.0) (first_so (text_allowed domain.SingleMac x.0) true fits) in
+    alone ∙ ap (λ t. Text t ∷ []) (mac_spelled x.0 m x.2 low)
+
+-- remote rows by switch and group
+pub group_parts : (row : Contents) (x : Group) → group_of row ≡ Some x → (id_at row McastRemoteLogicalSwitch ≡ Some x.switch) × (option_and_then group_in (text_in_row row McastRemoteMac) ≡ Some x.group) × (id_at row McastRemoteLocatorSet ≡ Some x.set)
+group_parts row x is =
+    let s = some_of (λ switch. option_and_then (λ mac. option_map (group switch mac) (id_at row McastRemoteLocatorSet)) (option_and_then group_in (text_in_row row McastRemoteMac))) (id_at row McastRemoteLogicalSwitch) x is in
+    let m = some_of (λ mac. option_map (group s.0 mac) (id_at row McastRemoteLocatorSet)) (option_and_then group_in (text_in_row row McastRemoteMac)) x s.2 in
+    let l = map_of (group s.0 m.0) (id_at row McastRemoteLocatorSet) x m.2 in
+    (s.1 ∙ ap (λ (y : Group). Some y.switch) (sym l.2), m.1 ∙ ap (λ (y : Group). Some y.group) (sym l.2), l.1 ∙ ap (λ (y : Group). Some y.set) (sym l.2))
+
+abbrev spelled : Option ℕ → Bytes
+spelled None = codes "unknown-dst"
+spelled (Some m) = mac_text m
+
+group_spelled : (t : Bytes) (g : Option ℕ) → text_allowed domain.GroupMac t ≡ true → group_in t ≡ Some g → t ≡ spelled g
+group_spelled t g fits is = by (same_bytes t (codes "unknown-dst")) refl fits is
+  where
+    by : (b : Bool) → same_bytes t (codes "unknown-dst") ≡ b → (b || is_mac is_group t) ≡ true → (if b then Some None else option_map Some (mac_of t)) ≡ Some g → t ≡ spelled g
+    by true e fit known = bytes_same t (codes "unknown-dst") e ∙ ap spelled (same_some None g known)
+    by false e fit known =
+        let m = map_of Some (mac_of t) g known in
+        mac_spelled t m.0 m.1 (second_so (passes is_group (mac_of t)) (is_lower t) fit) ∙ ap spelled (sym m.2)
+
+group_text : (row : Contents) (g : Option ℕ) → is_row row ≡ true → option_and_then group_in (text_in_row row McastRemoteMac) ≡ Some g → atoms_at row McastRemoteMac ≡ Text (spelled g) ∷ []
+group_text row g is e =
+    let x = some_of group_in (text_in_row row McastRemoteMac) g e in
+    let alone : atoms_at row McastRemoteMac ≡ Text x.0 ∷ [] = text_alone row McastRemoteMac is refl x.0 x.1 in
+    let fits : (text_allowed domain.GroupMac x.0 && true) ≡ true = ap (list_all (atom_allowed domain.GroupMac)) (sym alone) ∙ (atoms_fit row McastRemoteMac is).each in
+    alone ∙ ap (λ t. Text t ∷ []) (group_spelled x.0 g (first_so (text_allowed domain.GroupMac x.0) true fits) x.2)
+
+module _ (r : Rows) (sound : Sound r) where
+  -- ports of one name
+  pub one_port : (i j : ℕ) (a b : Contents) (p : Bytes) → is_row a ≡ true → is_row b ≡ true → row_at r (PhysicalPort, i) ≡ Some a → row_at r (PhysicalPort, j) ≡ Some b → port_name a ≡ Some p → port_name b ≡ Some p → i ≡ j
+  one_port i j a b p ra rb at bt is js =
+      sound.unique PhysicalPort i j a b at bt
+      (only_key (agree (PortName ∷ []) a b)
+      (both (hold_same (atoms_at a PortName) (atoms_at b PortName)) true
+      (hold_one (Text p) (atoms_at a PortName) (atoms_at b PortName)
+      (text_alone a PortName ra refl p (port_text a p is))
+      (text_alone b PortName rb refl p (port_text b p js))) refl))
+
+  -- switches of one network
+  pub one_network : (i j : ℕ) (a b : Contents) (n : ℕ) → is_row a ≡ true → is_row b ≡ true → row_at r (LogicalSwitch, i) ≡ Some a → row_at r (LogicalSwitch, j) ≡ Some b → number_at a LogicalTunnelKey ≡ Some n → number_at b LogicalTunnelKey ≡ Some n → i ≡ j
+  one_network i j a b n ra rb at bt is js =
+      sound.unique LogicalSwitch i j a b at bt
+      (second_key (agree (LogicalName ∷ []) a b) (agree (LogicalTunnelKey ∷ []) a b)
+      (both (hold_same (atoms_at a LogicalTunnelKey) (atoms_at b LogicalTunnelKey)) true
+      (hold_one (Integer (pos n)) (atoms_at a LogicalTunnelKey) (atoms_at b LogicalTunnelKey)
+      (number_alone a LogicalTunnelKey ra refl n is)
+      (number_alone b LogicalTunnelKey rb refl n js)) refl))
+
+  -- remote rows of one switch and address
+  pub one_remote : (i j : ℕ) (a b : Contents) (s m : ℕ) → is_row a ≡ true → is_row b ≡ true → row_at r (UcastMacsRemote, i) ≡ Some a → row_at r (UcastMacsRemote, j) ≡ Some b
+      → id_at a UcastRemoteLogicalSwitch ≡ Some s → id_at b UcastRemoteLogicalSwitch ≡ Some s → mac_at a UcastRemoteMac ≡ Some m → mac_at b UcastRemoteMac ≡ Some m → i ≡ j
+  one_remote i j a b s m ra rb at bt sa sb am bm =
+      sound.unique UcastMacsRemote i j a b at bt
+      (only_key (agree (UcastRemoteLogicalSwitch ∷ UcastRemoteMac ∷ []) a b)
+      (both (hold_same (atoms_at a UcastRemoteLogicalSwitch) (atoms_at b UcastRemoteLogicalSwitch)) (hold_same (atoms_at a UcastRemoteMac) (atoms_at b UcastRemoteMac) && true)
+      (hold_one (Id s) (atoms_at a UcastRemoteLogicalSwitch) (atoms_at b UcastRemoteLogicalSwitch)
+      (id_alone a UcastRemoteLogicalSwitch ra refl s sa) (id_alone b UcastRemoteLogicalSwitch rb refl s sb))
+      (both (hold_same (atoms_at a UcastRemoteMac) (atoms_at b UcastRemoteMac)) true
+      (hold_one (Text (mac_text m)) (atoms_at a UcastRemoteMac) (atoms_at b UcastRemoteMac)
+      (single_text a m ra am) (single_text b m rb bm)) refl)))
+
+  -- remote rows of one switch and group
+  pub one_group : (i j : ℕ) (a b : Contents) (s : ℕ) (g : Option ℕ) → is_row a ≡ true → is_row b ≡ true → row_at r (McastMacsRemote, i) ≡ Some a → row_at r (McastMacsRemote, j) ≡ Some b
+      → id_at a McastRemoteLogicalSwitch ≡ Some s → id_at b McastRemoteLogicalSwitch ≡ Some s
+      → option_and_then group_in (text_in_row a McastRemoteMac) ≡ Some g → option_and_then group_in (text_in_row b McastRemoteMac) ≡ Some g → i ≡ j
+  one_group i j a b s g ra rb at bt sa sb ag bg =
+      sound.unique McastMacsRemote i j a b at bt
+      (only_key (agree (McastRemoteLogicalSwitch ∷ McastRemoteMac ∷ []) a b)
+      (both (hold_same (atoms_at a McastRemoteLogicalSwitch) (atoms_at b McastRemoteLogicalSwitch)) (hold_same (atoms_at a McastRemoteMac) (atoms_at b McastRemoteMac) && true)
+      (hold_one (Id s) (atoms_at a McastRemoteLogicalSwitch) (atoms_at b McastRemoteLogicalSwitch)
+      (id_alone a McastRemoteLogicalSwitch ra refl s sa) (id_alone b McastRemoteLogicalSwitch rb refl s sb))
+      (both (hold_same (atoms_at a McastRemoteMac) (atoms_at b McastRemoteMac)) true
+      (hold_one (Text (spelled g)) (atoms_at a McastRemoteMac) (atoms_at b McastRemoteMac)
+      (group_text a g ra ag) (group_text b g rb bg)) refl)))
+
 module _ (r : Rows) (rows : IsRows r) (sound : Sound r) where
   module _ (t : Table) (i j : ℕ) (a b : Contents) (at : row_at r (t, i) ≡ Some a) (bt : row_at r (t, j) ≡ Some b) where
     same_row : i ≡ j → a ≡ b
@@ -73,100 +171,6 @@ module _ (r : Rows) (rows : IsRows r) (sound : Sound r) where
 
   row_is : (t : Table) (i : ℕ) (a : Contents) → row_at r (t, i) ≡ Some a → is_row a ≡ true
   row_is t i a at = its_contents r t i a rows at
-
-  -- ports of one name
-  port_text : (row : Contents) (p : Bytes) → port_name row ≡ Some p → text_in_row row PortName ≡ Some p
-  port_text row p is =
-      let x = some_of name_of (text_in_row row PortName) p is in
-      x.1 ∙ ap Some (sym (name_read_is_printed x.0 p x.2))
-
-  one_port : (i j : ℕ) (a b : Contents) (p : Bytes) → row_at r (PhysicalPort, i) ≡ Some a → row_at r (PhysicalPort, j) ≡ Some b → port_name a ≡ Some p → port_name b ≡ Some p → i ≡ j
-  one_port i j a b p at bt is js =
-      sound.unique PhysicalPort i j a b at bt
-      (only_key (agree (PortName ∷ []) a b)
-      (both (hold_same (atoms_at a PortName) (atoms_at b PortName)) true
-      (hold_one (Text p) (atoms_at a PortName) (atoms_at b PortName)
-      (text_alone a PortName (row_is PhysicalPort i a at) refl p (port_text a p is))
-      (text_alone b PortName (row_is PhysicalPort j b bt) refl p (port_text b p js))) refl))
-
-  -- switches of one network
-  one_network : (i j : ℕ) (a b : Contents) (n : ℕ) → row_at r (LogicalSwitch, i) ≡ Some a → row_at r (LogicalSwitch, j) ≡ Some b → number_at a LogicalTunnelKey ≡ Some n → number_at b LogicalTunnelKey ≡ Some n → i ≡ j
-  one_network i j a b n at bt is js =
-      sound.unique LogicalSwitch i j a b at bt
-      (second_key (agree (LogicalName ∷ []) a b) (agree (LogicalTunnelKey ∷ []) a b)
-      (both (hold_same (atoms_at a LogicalTunnelKey) (atoms_at b LogicalTunnelKey)) true
-      (hold_one (Integer (pos n)) (atoms_at a LogicalTunnelKey) (atoms_at b LogicalTunnelKey)
-      (number_alone a LogicalTunnelKey (row_is LogicalSwitch i a at) refl n is)
-      (number_alone b LogicalTunnelKey (row_is LogicalSwitch j b bt) refl n js)) refl))
-
-  -- remote rows of one switch and address
-  remote_parts : (row : Contents) (x : Remote) → remote_of row ≡ Some x → (id_at row UcastRemoteLogicalSwitch ≡ Some x.switch) × (mac_at row UcastRemoteMac ≡ Some x.mac) × (id_at row UcastRemoteLocator ≡ Some x.locator)
-  remote_parts row x is =
-      let s = some_of (λ switch. option_and_then (λ mac. option_map (remote switch mac) (id_at row UcastRemoteLocator)) (mac_at row UcastRemoteMac)) (id_at row UcastRemoteLogicalSwitch) x is in
-      let m = some_of (λ mac. option_map (remote s.0 mac) (id_at row UcastRemoteLocator)) (mac_at row UcastRemoteMac) x s.2 in
-      let l = map_of (remote s.0 m.0) (id_at row UcastRemoteLocator) x m.2 in
-      (s.1 ∙ ap (λ (y : Remote). Some y.switch) (sym l.2), m.1 ∙ ap (λ (y : Remote). Some y.mac) (sym l.2), l.1 ∙ ap (λ (y : Remote). Some y.locator) (sym l.2))
-
-  single_text : (row : Contents) (m : ℕ) → is_row row ≡ true → mac_at row UcastRemoteMac ≡ Some m → atoms_at row UcastRemoteMac ≡ Text (mac_text m) ∷ []
-  single_text row m is e =
-      let x = some_of mac_of (text_in_row row UcastRemoteMac) m e in
-      let alone : atoms_at row UcastRemoteMac ≡ Text x.0 ∷ [] = text_alone row UcastRemoteMac is refl x.0 x.1 in
-      let fits : (text_allowed domain.SingleMac x.0 && true) ≡ true = ap (list_all (atom_allowed domain.SingleMac)) (sym alone) ∙ (atoms_fit row UcastRemoteMac is).each in
-      let low : is_lower x.0 ≡ true = second_so (passes _ (mac_of x.0)) (is_lower x.0) (first_so (text_allowed domain.SingleMac x.0) true fits) in
-      alone ∙ ap (λ t. Text t ∷ []) (mac_spelled x.0 m x.2 low)
-
-  one_remote : (i j : ℕ) (a b : Contents) (s m : ℕ) → row_at r (UcastMacsRemote, i) ≡ Some a → row_at r (UcastMacsRemote, j) ≡ Some b
-      → id_at a UcastRemoteLogicalSwitch ≡ Some s → id_at b UcastRemoteLogicalSwitch ≡ Some s → mac_at a UcastRemoteMac ≡ Some m → mac_at b UcastRemoteMac ≡ Some m → i ≡ j
-  one_remote i j a b s m at bt sa sb am bm =
-      sound.unique UcastMacsRemote i j a b at bt
-      (only_key (agree (UcastRemoteLogicalSwitch ∷ UcastRemoteMac ∷ []) a b)
-      (both (hold_same (atoms_at a UcastRemoteLogicalSwitch) (atoms_at b UcastRemoteLogicalSwitch)) (hold_same (atoms_at a UcastRemoteMac) (atoms_at b UcastRemoteMac) && true)
-      (hold_one (Id s) (atoms_at a UcastRemoteLogicalSwitch) (atoms_at b UcastRemoteLogicalSwitch)
-      (id_alone a UcastRemoteLogicalSwitch (row_is UcastMacsRemote i a at) refl s sa) (id_alone b UcastRemoteLogicalSwitch (row_is UcastMacsRemote j b bt) refl s sb))
-      (both (hold_same (atoms_at a UcastRemoteMac) (atoms_at b UcastRemoteMac)) true
-      (hold_one (Text (mac_text m)) (atoms_at a UcastRemoteMac) (atoms_at b UcastRemoteMac)
-      (single_text a m (row_is UcastMacsRemote i a at) am) (single_text b m (row_is UcastMacsRemote j b bt) bm)) refl)))
-
-  -- remote rows of one switch and group
-  group_parts : (row : Contents) (x : Group) → group_of row ≡ Some x → (id_at row McastRemoteLogicalSwitch ≡ Some x.switch) × (option_and_then group_in (text_in_row row McastRemoteMac) ≡ Some x.group) × (id_at row McastRemoteLocatorSet ≡ Some x.set)
-  group_parts row x is =
-      let s = some_of (λ switch. option_and_then (λ mac. option_map (group switch mac) (id_at row McastRemoteLocatorSet)) (option_and_then group_in (text_in_row row McastRemoteMac))) (id_at row McastRemoteLogicalSwitch) x is in
-      let m = some_of (λ mac. option_map (group s.0 mac) (id_at row McastRemoteLocatorSet)) (option_and_then group_in (text_in_row row McastRemoteMac)) x s.2 in
-      let l = map_of (group s.0 m.0) (id_at row McastRemoteLocatorSet) x m.2 in
-      (s.1 ∙ ap (λ (y : Group). Some y.switch) (sym l.2), m.1 ∙ ap (λ (y : Group). Some y.group) (sym l.2), l.1 ∙ ap (λ (y : Group). Some y.set) (sym l.2))
-
-  abbrev spelled : Option ℕ → Bytes
-  spelled None = codes "unknown-dst"
-  spelled (Some m) = mac_text m
-
-  group_spelled : (t : Bytes) (g : Option ℕ) → text_allowed domain.GroupMac t ≡ true → group_in t ≡ Some g → t ≡ spelled g
-  group_spelled t g fits is = by (same_bytes t (codes "unknown-dst")) refl fits is
-    where
-      by : (b : Bool) → same_bytes t (codes "unknown-dst") ≡ b → (b || is_mac is_group t) ≡ true → (if b then Some None else option_map Some (mac_of t)) ≡ Some g → t ≡ spelled g
-      by true e fit known = bytes_same t (codes "unknown-dst") e ∙ ap spelled (same_some None g known)
-      by false e fit known =
-          let m = map_of Some (mac_of t) g known in
-          mac_spelled t m.0 m.1 (second_so (passes is_group (mac_of t)) (is_lower t) fit) ∙ ap spelled (sym m.2)
-
-  group_text : (row : Contents) (g : Option ℕ) → is_row row ≡ true → option_and_then group_in (text_in_row row McastRemoteMac) ≡ Some g → atoms_at row McastRemoteMac ≡ Text (spelled g) ∷ []
-  group_text row g is e =
-      let x = some_of group_in (text_in_row row McastRemoteMac) g e in
-      let alone : atoms_at row McastRemoteMac ≡ Text x.0 ∷ [] = text_alone row McastRemoteMac is refl x.0 x.1 in
-      let fits : (text_allowed domain.GroupMac x.0 && true) ≡ true = ap (list_all (atom_allowed domain.GroupMac)) (sym alone) ∙ (atoms_fit row McastRemoteMac is).each in
-      alone ∙ ap (λ t. Text t ∷ []) (group_spelled x.0 g (first_so (text_allowed domain.GroupMac x.0) true fits) x.2)
-
-  one_group : (i j : ℕ) (a b : Contents) (s : ℕ) (g : Option ℕ) → row_at r (McastMacsRemote, i) ≡ Some a → row_at r (McastMacsRemote, j) ≡ Some b
-      → id_at a McastRemoteLogicalSwitch ≡ Some s → id_at b McastRemoteLogicalSwitch ≡ Some s
-      → option_and_then group_in (text_in_row a McastRemoteMac) ≡ Some g → option_and_then group_in (text_in_row b McastRemoteMac) ≡ Some g → i ≡ j
-  one_group i j a b s g at bt sa sb ag bg =
-      sound.unique McastMacsRemote i j a b at bt
-      (only_key (agree (McastRemoteLogicalSwitch ∷ McastRemoteMac ∷ []) a b)
-      (both (hold_same (atoms_at a McastRemoteLogicalSwitch) (atoms_at b McastRemoteLogicalSwitch)) (hold_same (atoms_at a McastRemoteMac) (atoms_at b McastRemoteMac) && true)
-      (hold_one (Id s) (atoms_at a McastRemoteLogicalSwitch) (atoms_at b McastRemoteLogicalSwitch)
-      (id_alone a McastRemoteLogicalSwitch (row_is McastMacsRemote i a at) refl s sa) (id_alone b McastRemoteLogicalSwitch (row_is McastMacsRemote j b bt) refl s sb))
-      (both (hold_same (atoms_at a McastRemoteMac) (atoms_at b McastRemoteMac)) true
-      (hold_one (Text (spelled g)) (atoms_at a McastRemoteMac) (atoms_at b McastRemoteMac)
-      (group_text a g (row_is McastMacsRemote i a at) ag) (group_text b g (row_is McastMacsRemote j b bt) bg)) refl)))
 
   -- ---- bindings
 
@@ -200,7 +204,7 @@ module _ (r : Rows) (rows : IsRows r) (sound : Sound r) where
   -- one VLAN of one port is bound once
   pub one_binding : (b c : Binding) → BindingOf b → BindingOf c → b.port ≡ c.port → b.vlan ≡ c.vlan → (b.switch ≡ c.switch) × (b.lists ≡ c.lists)
   one_binding b c x y port vlan =
-      let same : x.row ≡ y.row = same_row PhysicalPort x.id y.id x.row y.row x.at y.at (one_port x.id y.id x.row y.row b.port x.at y.at x.named (y.named ∙ ap Some (sym port))) in
+      let same : x.row ≡ y.row = same_row PhysicalPort x.id y.id x.row y.row x.at y.at (one_port r sound x.id y.id x.row y.row b.port (row_is PhysicalPort x.id x.row x.at) (row_is PhysicalPort y.id y.row y.at) x.at y.at x.named (y.named ∙ ap Some (sym port))) in
       let bound : IsIn (b.vlan, c.switch) (vlan_bindings x.row) = subst (λ (w : ℕ × Contents). IsIn (w.0, c.switch) (vlan_bindings w.1)) (λ i. (sym vlan i, sym same i)) y.bound in
       let pairs = maps.map_by nat_cmp (filter_map number_and_id (pairs_at x.row PortVlanBindings)) in (
         same_some b.switch c.switch (sym (in_get nat_cmp_total pairs b.vlan b.switch x.bound) ∙ in_get nat_cmp_total pairs b.vlan c.switch bound),
@@ -216,12 +220,12 @@ module _ (r : Rows) (rows : IsRows r) (sound : Sound r) where
       is ∙ ap held.Lists (one_binding b c (binding_of b bh) (binding_of c ch) (bp ∙ sym cp) (bv ∙ sym cv)).1 ∙ sym js
   part_once s (part.Group g) h k (i, a, at, x, xa, xs, xg, is) (j, b, bt, y, yb, ys, yg, js) =
       let xp = group_parts a x xa in let yp = group_parts b y yb in
-      let same : a ≡ b = same_row McastMacsRemote i j a b at bt (one_group i j a b s g at bt (xp.0 ∙ ap Some xs) (yp.0 ∙ ap Some ys) (xp.1 ∙ ap Some xg) (yp.1 ∙ ap Some yg)) in
+      let same : a ≡ b = same_row McastMacsRemote i j a b at bt (one_group r sound i j a b s g (row_is McastMacsRemote i a at) (row_is McastMacsRemote j b bt) at bt (xp.0 ∙ ap Some xs) (yp.0 ∙ ap Some ys) (xp.1 ∙ ap Some xg) (yp.1 ∙ ap Some yg)) in
       let one : x ≡ y = same_some x y (sym xa ∙ ap group_of same ∙ yb) in
       is ∙ ap (λ (z : Group). held.Set z.set) one ∙ sym js
   part_once s (part.Host m) h k (i, a, at, x, xa, xs, xm, is) (j, b, bt, y, yb, ys, ym, js) =
       let xp = remote_parts a x xa in let yp = remote_parts b y yb in
-      let same : a ≡ b = same_row UcastMacsRemote i j a b at bt (one_remote i j a b s m at bt (xp.0 ∙ ap Some xs) (yp.0 ∙ ap Some ys) (xp.1 ∙ ap Some xm) (yp.1 ∙ ap Some ym)) in
+      let same : a ≡ b = same_row UcastMacsRemote i j a b at bt (one_remote r sound i j a b s m (row_is UcastMacsRemote i a at) (row_is UcastMacsRemote j b bt) at bt (xp.0 ∙ ap Some xs) (yp.0 ∙ ap Some ys) (xp.1 ∙ ap Some xm) (yp.1 ∙ ap Some ym)) in
       let one : x ≡ y = same_some x y (sym xa ∙ ap remote_of same ∙ yb) in
       is ∙ ap (λ (z : Remote). held.Host None (Some z.locator)) one ∙ sym js
 
@@ -230,7 +234,7 @@ module _ (r : Rows) (rows : IsRows r) (sound : Sound r) where
       let one = one_binding b c (binding_of b bh) (binding_of c ch) (bp ∙ sym cp) (bv ∙ sym cv) in
       is ∙ (λ i. held.Bound (one.0 i) (one.1 i)) ∙ sym js
   given_once (spot.Switch s p) h l x y = part_once s p h l x y
-  given_once (spot.Vni n) h l (i, a, at, xa, is) (j, b, bt, yb, js) = is ∙ ap held.Of (one_network i j a b n at bt xa yb) ∙ sym js
+  given_once (spot.Vni n) h l (i, a, at, xa, is) (j, b, bt, yb, js) = is ∙ ap held.Of (one_network r sound i j a b n (row_is LogicalSwitch i a at) (row_is LogicalSwitch j b bt) at bt xa yb) ∙ sym js
   given_once (spot.Set i) h l (a, at, is) (b, bt, js) = is ∙ ap (λ row. held.Members (ids_at row SetLocators)) (same_row PhysicalLocatorSet i i a b at bt refl) ∙ sym js
   given_once (spot.Locator i) h l (a, at, x, xa, is) (b, bt, y, yb, js) =
       let same : a ≡ b = same_row PhysicalLocator i i a b at bt refl in

@@ -11,3 +11,5 @@ pub mod HopIs
 pub mod Sent
 pub mod BindingSpots
 pub mod Rooms
+pub mod Same
+pub mod Follows

@@ -63,9 +63,13 @@ is_vlan p = is_vlan_key p.0
 abbrev pub vlan_bindings : Contents → List (ℕ × ℕ)
 vlan_bindings row = (maps.map_by nat_cmp (filter_map number_and_id (pairs_at row PortVlanBindings))).list
 
+-- the row that a column names at a number
+abbrev pub id_at_key : Contents → Column → ℕ → Option ℕ
+id_at_key row c key = option_and_then id_in (value_in (pairs_at row c) (Integer (pos key)))
+
 -- the ACL at a key of acl_bindings
 abbrev pub acl_at : Contents → ℕ → Option ℕ
-acl_at row key = option_and_then id_in (value_in (pairs_at row PortAclBindings) (Integer (pos key)))
+acl_at row key = id_at_key row PortAclBindings key
 
 -- the ACL for all VLANs, at key 0, and that of the VLAN
 abbrev pub lists_at : Contents → ℕ → Lists

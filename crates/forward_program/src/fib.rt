@@ -14,17 +14,18 @@ ghost use Rattle.vtep_rows.specs.Changes.{changes};
 ghost use Rattle.forward_program.specs.Readings.{own_address, number_and_id, is_vlan};
 ghost use Rattle.forward_program.specs.Shown.{binding_entries, pair_entries, vni_entries, row_entries, table_entries, forward_tables, all_entries, shown};
 
+use crate::follow::moves_own;
 use crate::held::{Few, Held, Lists};
 use crate::readings::{
-    lists, mode, other_address, own_address, port_name, read_group, read_remote, tunnel_key,
-    vlan_and_switch,
+    atoms, lists, mode, other_address, own_address, port_name, read_group, read_remote, tunnel_key,
+    vlan_and_switch, vlan_pairs,
 };
 use crate::spots::{Part, Spot};
-use ovsdb_values::{Atom, Datum};
+use ovsdb_values::Atom;
 use std::alloc::Global;
 use std::marker::Model;
 use vtep_base::{Counted, Ipv4, Ledger, Name, OutOfMemory, RowId, Steps, Vlan, Vni};
-use vtep_rows::{Change, Row, Rows};
+use vtep_rows::{Change, Row, RowChange, Rows};
 use vtep_schema::{Column, Table};
 
 /// The forwarding state of a gateway. Contracts see its entries, and whether want of memory broke it.
@@ -79,13 +80,11 @@ fn few_ids(alloc: Global, atoms: &[Atom]) -> Result<Few<RowId>, OutOfMemory>
 
 /// The locators of a set.
 fn locators(alloc: Global, row: &Row) -> Result<Few<RowId>, OutOfMemory>
-    requires { row.now.table ≡ Table.PhysicalLocatorSet }
     ensures { IfOk result (λ ids. ids ≡ ids_at row.now Column.SetLocators) }
 {
-    match row.value(Column::SetLocators) {
-        Datum::Set(set) => few_ids(alloc, set.as_slice()),
-        Datum::Map(_) => Ok(Few::new(Vec::new(alloc))),
-    }
+    // It says that it is a row of its table.
+    let _ = row.table();
+    few_ids(alloc, atoms(row, Column::SetLocators))
 }
 
 impl<L: Ledger> Fib<L> {
@@ -114,6 +113,26 @@ impl<L: Ledger> Fib<L> {
         Ok(())
     }
 
+    fn holds(&self, spot: &Spot, held: &Held) -> bool
+        ensures { result ≡ true → maps.get self.now.entries spot.now ≡ Some held.now }
+    {
+        match self.entries.find(spot) {
+            Some(there) => there.same_binding(held),
+            None => false,
+        }
+    }
+
+    /// Puts what is not there already, at a place of a binding.
+    fn put_new(&mut self, spot: Spot, held: Held, steps: &mut Steps<L>) -> Result<(), OutOfMemory>
+        ensures ok { OnOk result (self.new.entries ≡ maps.insert self.old.entries spot held) }
+        ensures same { self.new.broken ≡ self.old.broken }
+    {
+        if self.holds(&spot, &held) {
+            return Ok(());
+        }
+        self.put(spot, held, steps)
+    }
+
     fn put_binding(
         &mut self,
         port: Name,
@@ -127,8 +146,8 @@ impl<L: Ledger> Fib<L> {
         ensures same { self.new.broken ≡ self.old.broken }
     {
         let (vlan, switch) = bound;
-        self.put(Spot::Port(port, vlan), Held::Bound { switch, lists }, steps)?;
-        self.put(
+        self.put_new(Spot::Port(port, vlan), Held::Bound { switch, lists }, steps)?;
+        self.put_new(
             Spot::Switch(switch, Part::Member(port, vlan)),
             Held::Lists(lists),
             steps,
@@ -173,7 +192,6 @@ impl<L: Ledger> Fib<L> {
     }
 
     fn put_port(&mut self, id: RowId, row: &Row, steps: &mut Steps<L>) -> Result<(), OutOfMemory>
-        requires { row.now.table ≡ Table.PhysicalPort }
         ensures ok { (own : ℕ) → OnOk result (self.new.entries
             ≡ put_all self.old.entries (row_entries own Table.PhysicalPort (id, row.now))) }
         ensures same { self.new.broken ≡ self.old.broken }
@@ -181,14 +199,10 @@ impl<L: Ledger> Fib<L> {
         let Some(port) = port_name(row) else {
             return Ok(());
         };
-        match row.value(Column::PortVlanBindings) {
-            Datum::Map(pairs) => self.put_pairs(port, row, pairs.as_slice(), steps),
-            Datum::Set(_) => Ok(()),
-        }
+        self.put_pairs(port, row, vlan_pairs(row), steps)
     }
 
     fn put_switch(&mut self, id: RowId, row: &Row, steps: &mut Steps<L>) -> Result<(), OutOfMemory>
-        requires { row.now.table ≡ Table.LogicalSwitch }
         ensures ok { (own : ℕ) → OnOk result (self.new.entries
             ≡ put_all self.old.entries (row_entries own Table.LogicalSwitch (id, row.now))) }
         ensures same { self.new.broken ≡ self.old.broken }
@@ -272,7 +286,6 @@ impl<L: Ledger> Fib<L> {
         row: &Row,
         steps: &mut Steps<L>,
     ) -> Result<(), OutOfMemory>
-        requires { row.now.table ≡ Table.PhysicalLocatorSet }
         ensures ok { (own : ℕ) → OnOk result (self.new.entries
             ≡ put_all self.old.entries (row_entries own Table.PhysicalLocatorSet (id, row.now))) }
         ensures same { self.new.broken ≡ self.old.broken }
@@ -282,7 +295,7 @@ impl<L: Ledger> Fib<L> {
     }
 
     /// What a row has in the forwarding state.
-    fn put_row(
+    pub(crate) fn put_row(
         &mut self,
         alloc: Global,
         own: Ipv4,
@@ -291,7 +304,6 @@ impl<L: Ledger> Fib<L> {
         row: &Row,
         steps: &mut Steps<L>,
     ) -> Result<(), OutOfMemory>
-        requires { row.now.table ≡ table }
         ensures ok { OnOk result (self.new.entries
             ≡ put_all self.old.entries (row_entries own table (id, row.now))) }
         ensures same { self.new.broken ≡ self.old.broken }
@@ -350,7 +362,7 @@ impl<L: Ledger> Fib<L> {
         Some(*spot)
     }
 
-    fn remove(&mut self, spot: &Spot, steps: &mut Steps<L>)
+    pub(crate) fn remove(&mut self, spot: &Spot, steps: &mut Steps<L>)
         ensures entries { self.new.entries ≡ maps.remove self.old.entries spot.now }
         ensures same { self.new.broken ≡ self.old.broken }
     {
@@ -372,26 +384,50 @@ impl<L: Ledger> Fib<L> {
         self.broken = broken;
     }
 
+    /// Makes it the state of these rows, by the rows that differ where the gateway's own address is what it was.
+    fn lead(
+        &mut self,
+        alloc: Global,
+        rows: &Rows,
+        change: &[RowChange],
+        steps: &mut Steps<L>,
+    ) -> Result<(), OutOfMemory>
+        requires sound { Sound rows.now }
+        requires own { IsSome (own_address rows.now) }
+        ensures state { (before : AllRows) → Sound before → change.now ≡ changes before rows.now
+            → self.old.entries ≡ shown before → OnOk result (self.new.entries ≡ shown rows.now) }
+        ensures same { self.new.broken ≡ self.old.broken }
+    {
+        // It says that each row is one of its table.
+        let _ = rows.counter();
+        if let Some(own) = own_address(rows) {
+            if !moves_own(change) {
+                return self.follow(alloc, own, change, steps);
+            }
+        }
+        self.clear(steps);
+        self.fill(alloc, rows, steps)
+    }
+
     /// Follows a commit that led from some sound rows, of which this is the state, to these rows by this change. After an `Err`
     /// the state is broken.
     pub fn apply(
         &mut self,
         alloc: Global,
         rows: &Rows,
-        _change: &Change,
+        change: &Change,
         steps: &mut Steps<L>,
     ) -> Result<(), OutOfMemory>
         requires going { self.old.broken ≡ false }
         requires sound { Sound rows.now }
         requires own { IsSome (own_address rows.now) }
-        ensures state { (before : AllRows) → Sound before → _change.now ≡ changes before rows.now
+        ensures state { (before : AllRows) → Sound before → change.now ≡ changes before rows.now
             → self.old.entries ≡ shown before
             → OnOk result (self.new ≡ record { entries = shown rows.now; broken = false }) }
         ensures broken { OnErr result (self.new.broken ≡ true) }
     {
         self.set_broken(true);
-        self.clear(steps);
-        self.fill(alloc, rows, steps)?;
+        self.lead(alloc, rows, change.as_slice(), steps)?;
         self.set_broken(false);
         Ok(())
     }

@@ -1,6 +1,7 @@
 //! What stands at the places of the forwarding state.
 
 ghost use Rattle.std.specs.Prelude.{◌≡◌, ◌≤◌, length, vec_len};
+ghost use Rattle.forward_program.specs.Same.{same_number, same_lists, same_binding};
 
 use std::marker::Model;
 use vtep_base::{Ipv4, Mode, Name, RowId, Vlan, Vni};
@@ -48,6 +49,26 @@ pub struct Lists {
     pub own: Option<RowId>,
 }
 
+fn same_id(a: Option<RowId>, b: Option<RowId>) -> bool
+    ensures { result ≡ same_number a b }
+{
+    match a {
+        None => b.is_none(),
+        Some(a) => match b {
+            None => false,
+            Some(b) => a == b,
+        },
+    }
+}
+
+impl Lists {
+    fn same(&self, other: &Lists) -> bool
+        ensures { result ≡ same_lists self.now other.now }
+    {
+        same_id(self.all, other.all) && same_id(self.own, other.own)
+    }
+}
+
 /// What stands at a place.
 #[derive(Drop)]
 pub enum Held {
@@ -76,4 +97,26 @@ pub enum Held {
     Members(Few<RowId>),
     /// At a locator: its address, which is not the gateway's own.
     Address(Ipv4),
+}
+
+impl Held {
+    /// Whether both are the same, where they stand at a place of a binding.
+    pub(crate) fn same_binding(&self, other: &Held) -> bool
+        ensures { result ≡ same_binding self.now other.now }
+    {
+        match self {
+            Held::Bound { switch, lists } => match other {
+                Held::Bound {
+                    switch: other_switch,
+                    lists: other_lists,
+                } => switch == other_switch && lists.same(other_lists),
+                _ => false,
+            },
+            Held::Lists(lists) => match other {
+                Held::Lists(other_lists) => lists.same(other_lists),
+                _ => false,
+            },
+            _ => false,
+        }
+    }
 }

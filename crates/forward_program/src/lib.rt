@@ -3,6 +3,7 @@
 
 mod facts;
 mod fib;
+mod follow;
 mod held;
 mod hop;
 mod hops;

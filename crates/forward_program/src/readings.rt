@@ -1,11 +1,18 @@
 //! What the forwarding state reads of rows (vtep(5)).
 
 ghost use Rattle.std.specs.Prelude.{◌≡◌, ◌<◌, ◌^◌, ◌==◌, pos, true, option_map, filter_map, IfSome};
-ghost use Rattle.vtep_rows.specs.Row.{allowed, first, text_in, nat_in, id_in, number_at, ids_at, atoms_at};
-ghost use Rattle.forward_program.specs.Readings.{text_in_row, ip_at, mac_at, id_at, own_address, port_name, number_and_id, is_vlan, acl_at, lists_at, mode_of, remote_of, group_in, group_of, other_address};
+ghost use Rattle.std.specs.List.{list_all};
+ghost use Rattle.std.specs.List.Sorted.{IsStrictlySortedBy};
+ghost use Rattle.std.specs.Map.{keys_of};
+ghost use Rattle.ovsdb_values.specs.Atoms.{atom_cmp};
+ghost use Rattle.ovsdb_values.specs.Sets.{value_in};
+ghost use Rattle.vtep_rows.specs.Row.{first, text_in, nat_in, id_in, number_at, pairs_at, atoms_at};
+ghost use Rattle.forward_program.specs.Readings.{text_in_row, ip_at, mac_at, id_at, own_address, port_name, number_and_id, is_vlan, id_at_key, acl_at, lists_at, mode_of, remote_of, group_in, group_of, other_address};
+ghost use Rattle.forward_program.specs.Built.{IsIn, binding, bindings_of};
 
 use crate::held::Lists;
 use ovsdb_values::{Atom, Datum};
+use std::cmp::Ord;
 use vtep_base::{Ipv4, Mac, Mode, Name, RowId, Vlan, Vni};
 use vtep_rows::{Row, Rows};
 use vtep_schema::{Column, Table};
@@ -45,7 +52,7 @@ fn first_number(atoms: &[Atom]) -> Option<u64>
     None
 }
 
-fn atoms(row: &Row, column: Column) -> &[Atom]
+pub(crate) fn atoms(row: &Row, column: Column) -> &[Atom]
     ensures { result.now ≡ atoms_at row.now column }
 {
     match row.find(column) {
@@ -60,7 +67,7 @@ fn text(row: &Row, column: Column) -> Option<&[u8]>
     first_text(atoms(row, column))
 }
 
-fn ip(row: &Row, column: Column) -> Option<Ipv4>
+pub(crate) fn ip(row: &Row, column: Column) -> Option<Ipv4>
     ensures { result ≡ ip_at row.now column }
 {
     Ipv4::parse(text(row, column)?).ok()
@@ -112,16 +119,61 @@ pub(crate) fn vlan_and_switch(pair: &(Atom, Atom)) -> Option<(Vlan, RowId)>
     }
 }
 
+/// The value of a key among pairs in the order of their keys.
+fn value_of<'a>(pairs: &'a [(Atom, Atom)], key: &Atom) -> Option<&'a Atom>
+    requires { IsStrictlySortedBy atom_cmp (keys_of pairs.now) }
+    ensures { option_map (λ value. value.now) result ≡ value_in pairs.now key.now }
+{
+    match pairs.binary_search_by(|pair| pair.0.cmp(key)) {
+        Ok(at) => Some(&pairs[at].1),
+        Err(_) => None,
+    }
+}
+
+/// The row that a column names at a number.
+fn id_at_key(row: &Row, column: Column, key: u16) -> Option<RowId>
+    ensures { result ≡ id_at_key row.now column key }
+{
+    match row.find(column) {
+        Some(Datum::Map(pairs)) => {
+            match value_of(pairs.as_slice(), &Atom::Integer(i64::from(key))) {
+                Some(Atom::Id(id)) => Some(*id),
+                _ => None,
+            }
+        }
+        _ => None,
+    }
+}
+
+/// The pairs of `vlan_bindings`.
+pub(crate) fn vlan_pairs(row: &Row) -> &[(Atom, Atom)]
+    ensures pairs { result.now ≡ pairs_at row.now Column.PortVlanBindings }
+    ensures vlans { list_all is_vlan result.now ≡ true }
+    ensures ordered { IsStrictlySortedBy atom_cmp (keys_of result.now) }
+{
+    // It says that it is a row of its table.
+    let _ = row.table();
+    match row.find(Column::PortVlanBindings) {
+        Some(Datum::Map(pairs)) => pairs.as_slice(),
+        _ => &[],
+    }
+}
+
+/// The switch to which a row binds a VLAN, where it is the row of the port.
+pub(crate) fn bound_to(row: &Row, port: Name, vlan: Vlan) -> Option<RowId>
+    ensures { IfSome result (λ switch.
+        IsIn (binding port row.now (vlan, switch)) (bindings_of row.now)) }
+{
+    if port_name(row)? != port {
+        return None;
+    }
+    id_at_key(row, Column::PortVlanBindings, vlan.number())
+}
+
 fn acl(row: &Row, key: u16) -> Option<RowId>
     ensures { result ≡ acl_at row.now key }
 {
-    match row.find(Column::PortAclBindings) {
-        Some(Datum::Map(acls)) => match acls.get(&Atom::Integer(i64::from(key))) {
-            Some(Atom::Id(id)) => Some(*id),
-            _ => None,
-        },
-        _ => None,
-    }
+    id_at_key(row, Column::PortAclBindings, key)
 }
 
 pub(crate) fn lists(row: &Row, vlan: Vlan) -> Lists
@@ -136,15 +188,13 @@ pub(crate) fn lists(row: &Row, vlan: Vlan) -> Lists
 
 /// The `tunnel_key` of a switch.
 pub(crate) fn tunnel_key(row: &Row) -> Option<Vni>
-    requires { row.now.table ≡ Table.LogicalSwitch }
     ensures { result ≡ number_at row.now Column.LogicalTunnelKey }
 {
-    match row.value(Column::LogicalTunnelKey) {
-        Datum::Set(set) => match first_number(set.as_slice()) {
-            Some(number) => Some(Vni::new(number as u32)),
-            None => None,
-        },
-        Datum::Map(_) => None,
+    // It says that it is a row of its table.
+    let _ = row.table();
+    match first_number(atoms(row, Column::LogicalTunnelKey)) {
+        Some(number) => Some(Vni::new(number as u32)),
+        None => None,
     }
 }
 

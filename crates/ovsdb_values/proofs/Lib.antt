@@ -1,6 +1,7 @@
 mod JsonLists
 mod Ids
 mod InOrder
+mod Few
 mod Carried
 mod Members
 mod ReadBack

@@ -1,6 +1,6 @@
 //! Sets of atoms.
 
-ghost use Rattle.std.specs.Prelude.{◌≡◌, not, [], ◌∷◌, ◌++◌, filter, IfSome, IfOk, OnOk};
+ghost use Rattle.std.specs.Prelude.{◌≡◌, ◌≤◌, not, [], ◌∷◌, ◌++◌, length, filter, Some, IfSome, IfOk, OnOk};
 ghost use Rattle.std.specs.List.Sorted.{IsStrictlySortedBy};
 ghost use Rattle.ovsdb_values.specs.Atoms.{atom_cmp, set_from};
 ghost use Rattle.ovsdb_values.specs.Sets.{has_atom, set_of};
@@ -54,6 +54,9 @@ impl AtomSet {
         ensures value { IfOk result (λ set. set ≡ set_from [] atoms) }
         ensures ordered { IfOk result (λ set. IfSome set (IsStrictlySortedBy atom_cmp)) }
     {
+        if atoms.len() <= 1 {
+            return Ok(Some(few(atoms)));
+        }
         let mut ordered = BTreeSet::new(alloc);
         'atoms: for atom in atoms.into_vec() {
             if ordered.contains(&atom) {
@@ -70,6 +73,9 @@ impl AtomSet {
     pub fn merged(alloc: Global, atoms: List<Atom>) -> Result<AtomSet, OutOfMemory>
         ensures { IfOk result (λ set. set ≡ set_of atoms) }
     {
+        if atoms.len() <= 1 {
+            return Ok(few(atoms));
+        }
         let mut ordered = BTreeSet::new(alloc);
         'atoms: for atom in atoms.into_vec() {
             ordered.insert(atom)?;
@@ -145,6 +151,19 @@ pub(crate) fn contains_atom(atoms: &[Atom], atom: &Atom) -> bool
         }
     }
     false
+}
+
+/// The set of one atom or none, which need no ordering.
+fn few(atoms: List<Atom>) -> AtomSet
+    requires { length atoms ≤ 1 }
+    ensures value { result ≡ atoms }
+    ensures ordered { IsStrictlySortedBy atom_cmp result }
+    ensures once { set_from [] atoms ≡ Some atoms }
+    ensures merged { set_of atoms ≡ atoms }
+{
+    let mut atoms = atoms.into_vec();
+    atoms.shrink_to_fit();
+    AtomSet { atoms }
 }
 
 fn in_order(alloc: Global, ordered: BTreeSet<Atom>) -> Result<Vec<Atom>, OutOfMemory>

@@ -187,9 +187,9 @@ fn read_entries(
 fn one(alloc: Global, atom: Atom) -> Result<List<Atom>, OutOfMemory>
     ensures { IfOk result (λ atoms. atoms ≡ atom ∷ []) }
 {
-    let mut atoms = List::new(alloc);
+    let mut atoms = Vec::with_capacity(alloc, 1)?;
     atoms.push(atom)?;
-    Ok(atoms)
+    Ok(List::from_vec(atoms))
 }
 
 /// The atoms of a set as they stand there, or none where the value has not the form of a set.

@@ -22,7 +22,7 @@ fn string_json(alloc: Global, text: &str) -> Result<Value, OutOfMemory>
 fn pair_json(alloc: Global, first: Value, second: Value) -> Result<Value, OutOfMemory>
     ensures { IfOk result (λ v. view v ≡ pair_json (view first) (view second)) }
 {
-    let mut items = Vec::new(alloc);
+    let mut items = Vec::with_capacity(alloc, 2)?;
     items.push(first)?;
     items.push(second)?;
     Ok(Value::Array(items))

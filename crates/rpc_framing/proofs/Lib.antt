@@ -1,5 +1,6 @@
 mod Scanned
 mod Readings
+mod Taken
 mod Held
 pub mod Kept
 pub mod Texts

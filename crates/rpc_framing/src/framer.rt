@@ -76,6 +76,22 @@ fn take_front(bytes: &mut Vec<u8>, count: usize)
     bytes.truncate(left);
 }
 
+/// So much room is kept for the messages to come.
+const ROOM_KEPT: usize = 1 << 16;
+
+/// Where the rest begins that begins at this place. Where it is empty, the room of a long message is given back.
+fn rest_at(alloc: Global, bytes: &mut Vec<u8>, start: usize) -> usize
+    requires { start ≤ length bytes.old.items }
+    ensures rest { drop result bytes.new.items ≡ drop start bytes.old.items }
+    ensures within { result ≤ length bytes.new.items }
+{
+    if start < bytes.len() || bytes.capacity() <= ROOM_KEPT {
+        return start;
+    }
+    *bytes = Vec::new(alloc);
+    0
+}
+
 impl Framer {
     /// A stream of which nothing came. A message has `limit` bytes at most.
     pub fn new(alloc: Global, limit: u64) -> Framer
@@ -149,7 +165,7 @@ impl Framer {
                 Err(NextFault::Refused(framing))
             }
             Front::Text(length, message) => {
-                self.start = start + length;
+                self.start = rest_at(self.alloc, &mut self.bytes, start + length);
                 self.at = past(at, length);
                 self.count = 0;
                 self.cursor = Cursor::start();

@@ -1,8 +1,10 @@
 //! From texts to messages.
 
-ghost use Rattle.std.specs.Prelude.{◌≡◌, ◌≤◌, IfOk, option_map, length};
+ghost use Rattle.std.specs.Prelude.{◌≡◌, ◌≤◌, ℕ, List, IfOk, option_map, codes, length};
+ghost use Rattle.serde_json.specs.Data.{object};
+ghost use Rattle.serde_json.specs.Find.{get_member, as_str, as_object};
 ghost use Rattle.serde_json.specs.View.{view, items_view, members_view};
-ghost use Rattle.rpc_framing.specs.Said.{is_whole, items_whole, members_whole, call_of, response_of, message_of, said, called, reading};
+ghost use Rattle.rpc_framing.specs.Said.{is_whole, items_whole, members_whole, call_of, response_of, by_method, message_of, said, called, reading};
 ghost use Rattle.rpc_framing.specs.Streams.{read_front, text_front, front, seen_front, IfWaiting, IfText};
 ghost use Rattle.rpc_framing.specs.Scan.{end_of, IsScanned, IsHeld};
 
@@ -49,67 +51,90 @@ fn members_whole(members: &Map<String, Value>) -> bool
     true
 }
 
+/// Takes a member out of an object, where it has one of this name.
+fn take_member(members: &mut Map<String, Value>, name: &str) -> Option<Value>
+    ensures member { option_map view result
+        ≡ get_member name.now (members_view members.old.entries) }
+    ensures others { (other : List ℕ) → (other ≡ name.now → ⊥)
+        → get_member other (members_view members.new.entries)
+        ≡ get_member other (members_view members.old.entries) }
+{
+    members.remove(name)
+}
+
 /// A call, of which the method and the parameters are given.
-fn called(alloc: Global, method: &str, params: &Value, id: &Value) -> Result<Message, OutOfMemory>
-    ensures { IfOk result (λ m. said m ≡ called method.now (view params.now) (view id.now)) }
+fn called(method: Txt, params: Value, id: Value) -> Message
+    ensures { said result ≡ called method (view params) (view id) }
 {
-    let method = Txt::from_str(alloc, method)?;
-    let params = params.clone()?;
     if id.is_null() {
-        return Ok(Message::Notification { method, params });
+        Message::Notification { method, params }
+    } else {
+        Message::Request { method, params, id }
     }
-    let id = id.clone()?;
-    Ok(Message::Request { method, params, id })
 }
 
-/// A request or a notification.
-fn call_of(alloc: Global, value: &Value, method: &Value) -> Result<Option<Message>, OutOfMemory>
-    ensures { IfOk result (λ o. option_map said o ≡ call_of (view value.now) (view method.now)) }
+fn text_in(value: Value) -> Option<Txt>
+    ensures { result ≡ as_str (view value) }
 {
-    let Some(method) = method.as_str() else {
-        return Ok(None);
-    };
-    let Some(params) = value.get("params") else {
-        return Ok(None);
-    };
+    match value {
+        Value::String(text) => Some(Txt::from_string(text)),
+        _other => None,
+    }
+}
+
+fn members_in(value: Value) -> Option<Map<String, Value>>
+    ensures { option_map (λ m. members_view m.entries) result ≡ as_object (view value) }
+{
+    match value {
+        Value::Object(members) => Some(members),
+        _other => None,
+    }
+}
+
+/// A request or a notification, of which the method was taken out.
+fn call_of(members: Map<String, Value>, method: Value) -> Option<Message>
+    ensures { option_map said result
+        ≡ call_of (object (members_view members.entries)) (view method) }
+{
+    let method = text_in(method)?;
+    let mut members = members;
+    let params = take_member(&mut members, "params")?;
     if !params.is_array() {
-        return Ok(None);
+        return None;
     }
-    let Some(id) = value.get("id") else {
-        return Ok(None);
-    };
-    Ok(Some(called(alloc, method, params, id)?))
+    let id = take_member(&mut members, "id")?;
+    Some(called(method, params, id))
 }
 
-fn response_of(alloc: Global, value: &Value) -> Result<Option<Message>, OutOfMemory>
-    ensures { IfOk result (λ o. option_map said o ≡ response_of (view value.now)) }
+fn response_of(members: Map<String, Value>) -> Option<Message>
+    ensures { option_map said result ≡ response_of (object (members_view members.entries)) }
 {
-    let Some(result) = value.get("result") else {
-        return Ok(None);
-    };
-    let Some(error) = value.get("error") else {
-        return Ok(None);
-    };
-    let Some(id) = value.get("id") else {
-        return Ok(None);
-    };
-    let result = result.clone()?;
-    let error = error.clone()?;
-    let id = id.clone()?;
-    Ok(Some(Message::Response { result, error, id }))
+    let mut members = members;
+    let result = take_member(&mut members, "result")?;
+    let error = take_member(&mut members, "error")?;
+    let id = take_member(&mut members, "id")?;
+    Some(Message::Response { result, error, id })
 }
 
-/// The message that a value is.
-fn message_of(alloc: Global, value: &Value) -> Result<Option<Message>, OutOfMemory>
-    ensures { IfOk result (λ o. option_map said o ≡ message_of (view value.now)) }
+fn message_among(members: Map<String, Value>) -> Option<Message>
+    ensures { option_map said result ≡ by_method (object (members_view members.entries))
+        (get_member (codes "method") (members_view members.entries)) }
 {
-    if !is_whole(value) {
-        return Ok(None);
+    let mut members = members;
+    match take_member(&mut members, "method") {
+        Some(method) => call_of(members, method),
+        None => response_of(members),
     }
-    match value.get("method") {
-        Some(method) => call_of(alloc, value, method),
-        None => response_of(alloc, value),
+}
+
+/// The message that a value is, which keeps what the value holds.
+fn message_of(value: Value) -> Option<Message>
+    ensures { option_map said result ≡ message_of (view value) }
+{
+    if !is_whole(&value) {
+        return None;
     }
+    message_among(members_in(value)?)
 }
 
 /// The value of a text, where it has one.
@@ -149,7 +174,7 @@ fn read_front(alloc: Global, text: &[u8]) -> Result<Front, OutOfMemory>
     let Some(value) = value_of(alloc, text)? else {
         return Ok(Front::Bad(0, FramingKind::BadJson));
     };
-    let Some(message) = message_of(alloc, &value)? else {
+    let Some(message) = message_of(value) else {
         return Ok(Front::Bad(0, FramingKind::BadMessage));
     };
     Ok(Front::Text(text.len(), message))

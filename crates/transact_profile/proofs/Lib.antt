@@ -1,3 +1,4 @@
+mod Cased
 mod Counting
 mod JsonLists
 mod Pushing

@@ -16,6 +16,7 @@ mod parts;
 mod reader;
 mod resolving;
 mod results;
+mod room;
 mod running;
 mod selecting;
 mod transaction;

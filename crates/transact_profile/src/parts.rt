@@ -14,6 +14,7 @@ use crate::faults::Fault;
 use crate::known::Known;
 use crate::members::triple;
 use crate::operations::{Condition, Field, Mutation};
+use crate::room::list_of;
 use crate::values::{column_value, field_value, mutation_value};
 use ovsdb_values::Datum;
 use serde_json::{Map, Value};
@@ -109,7 +110,7 @@ pub(crate) fn cells(
 ) -> Result<List<(Column, Datum)>, Fault>
     ensures { Reads result (cells known.now table (members_of (members_view row.now.entries))) }
 {
-    let mut cells = List::new(alloc);
+    let mut cells = list_of(alloc, row.len())?;
     'row: for (name, value) in row.iter() {
         cells.push(cell(alloc, known, table, name.as_str(), value)?)?;
     }
@@ -257,7 +258,7 @@ fn waited_cells(
     ensures { Reads result (each (waited_cell known.now table)
         (members_of (members_view row.now.entries))) }
 {
-    let mut cells = List::new(alloc);
+    let mut cells = list_of(alloc, row.len())?;
     'row: for (name, value) in row.iter() {
         cells.push(waited_cell(alloc, known, table, name.as_str(), value)?)?;
     }

@@ -5,6 +5,7 @@ ghost use Rattle.transact_profile.specs.Conditions.{atom_for, resolved_atom, res
 
 use crate::names::NamedRows;
 use crate::operations::{Condition, Field, Mutation};
+use crate::room::list_of;
 use ovsdb_values::{Atom, AtomMap, AtomSet, Datum};
 use std::alloc::Global;
 use vtep_base::{List, OutOfMemory};
@@ -29,7 +30,7 @@ fn resolved_atoms(
 ) -> Result<List<Atom>, OutOfMemory>
     ensures { IfOk result (λ all. all ≡ map (resolved_atom names.now) atoms.now) }
 {
-    let mut all = List::new(alloc);
+    let mut all = list_of(alloc, atoms.len())?;
     'atoms: for atom in atoms {
         all.push(resolved_atom(alloc, names, atom)?)?;
     }
@@ -75,7 +76,7 @@ pub(crate) fn resolved_row(
 ) -> Result<List<(Column, Datum)>, OutOfMemory>
     ensures { IfOk result (λ all. all ≡ resolved_cells names.now row.now) }
 {
-    let mut all = List::new(alloc);
+    let mut all = list_of(alloc, row.len())?;
     'row: for cell in row {
         all.push((cell.0, resolved(alloc, names, &cell.1)?))?;
     }

@@ -55,7 +55,7 @@ fn breach_word(rule: Rule) -> Word
 fn results_json(alloc: Global, results: &[OpResult]) -> Result<Vec<Value>, OutOfMemory>
     ensures { IfOk result (λ items. map view items.items ≡ map reply_json (map seen results.now)) }
 {
-    let mut items = Vec::new(alloc);
+    let mut items = Vec::with_capacity(alloc, results.len())?;
     'results: for outcome in results {
         items.push(result_json(alloc, outcome)?)?;
     }

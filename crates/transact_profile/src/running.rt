@@ -12,6 +12,7 @@ use crate::faults::Fault;
 use crate::names::NamedRows;
 use crate::operations::{Op, OpFault, Ops};
 use crate::outcomes::{OpResult, Outcome};
+use crate::room::list_of;
 use std::alloc::Global;
 use vtep_base::{List, OutOfMemory, Txt, Word};
 use vtep_rows::{Database, Rows};
@@ -51,7 +52,7 @@ fn run_all(
         ≡ (run_from names.now [] database.old.current ops.now).rows) }
     ensures committed { database.new.committed ≡ database.old.committed }
 {
-    let mut results = List::new(alloc);
+    let mut results = list_of(alloc, ops.len())?;
     'ops: for op in ops {
         match run_op(alloc, names, database, op) {
             Ok(outcome) => results.push(outcome)?,

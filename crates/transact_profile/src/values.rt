@@ -10,6 +10,7 @@ ghost use Rattle.transact_profile.specs.Values.{resolves, fits, holds_mac, lower
 use crate::faults::Fault;
 use crate::known::Known;
 use crate::operations::{Field, Mutator};
+use crate::room::list_of;
 use ovsdb_values::{Atom, AtomMap, AtomSet, Datum, atoms_from_json, pairs_from_json};
 use serde_json::Value;
 use std::alloc::Global;
@@ -126,7 +127,10 @@ fn all_lower_cased(
 ) -> Result<List<Atom>, OutOfMemory>
     ensures { IfOk result (λ all. all ≡ map (lower_cased domain) atoms) }
 {
-    let mut all = List::new(alloc);
+    if !holds_mac(domain) {
+        return Ok(atoms);
+    }
+    let mut all = list_of(alloc, atoms.len())?;
     'atoms: for atom in atoms.into_vec() {
         all.push(lower_cased(domain, atom))?;
     }

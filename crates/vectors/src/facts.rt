@@ -83,7 +83,8 @@ fn say_fact(alloc: Global, fact: &Fact, answer: &mut Bytes) -> Result<(), CaseFa
     Ok(answer.append(b"\n")?)
 }
 
-fn say_facts(alloc: Global, fib: &Fib<Plain>, answer: &mut Bytes) -> Result<(), CaseFault> {
+/// Adds the facts of a forwarding state that is not broken.
+pub fn say_facts(alloc: Global, fib: &Fib<Plain>, answer: &mut Bytes) -> Result<(), CaseFault> {
     if fib.broken() {
         return Err(CaseFault::Form);
     }

@@ -1,22 +1,31 @@
 //! Events of a gateway, and what goes out.
 
+use crate::facts::say_facts;
 use crate::faults::CaseFault;
-use crate::lines::{number, parts, say, text};
+use crate::lines::{bytes, number, parts, say, say_hex, text};
 use crate::messages::say_framing;
+use forward_program::Sent;
 use std::alloc::Global;
-use vtep_base::{Bytes, Ipv4, Name};
+use vtep_base::{Bytes, Ipv4, Name, Plain, Steps};
 use vtep_gateway::{Answer, Event, Gateway};
 
-fn new_gateway(alloc: Global) -> Result<Gateway, CaseFault> {
+fn new_gateway(alloc: Global) -> Result<Gateway<Plain>, CaseFault> {
     let name = Name::parse(b"g1")?;
     Ok(Gateway::new(alloc, name, Ipv4::parse(b"10.0.0.1")?)?)
 }
 
-fn step(gateway: &mut Gateway, event: &Event) -> Result<Answer, CaseFault> {
+fn step(gateway: &mut Gateway<Plain>, event: &Event) -> Result<Answer<Plain>, CaseFault> {
     if gateway.stopped() {
         return Err(CaseFault::OutOfMemory);
     }
-    Ok(gateway.step(event)?)
+    Ok(gateway.step(event, &mut Steps::new(Plain))?)
+}
+
+fn say_shown(gateway: &Gateway<Plain>, answer: &mut Bytes) -> Result<(), CaseFault> {
+    if gateway.stopped() {
+        return Err(CaseFault::OutOfMemory);
+    }
+    Ok(gateway.show(answer)?)
 }
 
 fn piece(alloc: Global, session: u32, bytes: &[u8]) -> Result<Event, CaseFault> {
@@ -27,7 +36,7 @@ fn piece(alloc: Global, session: u32, bytes: &[u8]) -> Result<Event, CaseFault> 
 }
 
 /// Adds the messages that go out, a line each, the session first.
-fn say_sent(alloc: Global, sent: &Answer, answer: &mut Bytes) -> Result<(), CaseFault> {
+fn say_sent(alloc: Global, sent: &Answer<Plain>, answer: &mut Bytes) -> Result<(), CaseFault> {
     'sends: for message in sent.sends.as_slice() {
         let session = format!(in alloc; "{} ", message.session)?;
         answer.append_all(&[session.as_bytes(), message.bytes.as_slice(), b"\n"])?;
@@ -35,11 +44,30 @@ fn say_sent(alloc: Global, sent: &Answer, answer: &mut Bytes) -> Result<(), Case
     Ok(())
 }
 
-fn say_all(alloc: Global, sent: &Answer, answer: &mut Bytes) -> Result<(), CaseFault> {
+/// Adds the frames that leave ports and the packets, a line each.
+fn say_left(alloc: Global, sent: &Sent<Plain>, answer: &mut Bytes) -> Result<(), CaseFault> {
+    'outs: for out in sent.outs().as_slice() {
+        answer.append_all(&[b"out ", out.port.as_slice(), b" "])?;
+        say_hex(alloc, out.bytes.as_slice(), answer)?;
+    }
+    'packets: for packet in sent.packets().as_slice() {
+        answer.append(b"packet ")?;
+        say_hex(alloc, packet.as_slice(), answer)?;
+    }
+    Ok(())
+}
+
+fn say_all(alloc: Global, sent: &Answer<Plain>, answer: &mut Bytes) -> Result<(), CaseFault> {
     say_sent(alloc, sent, answer)?;
     if let Some(framing) = sent.failed {
         say_framing(alloc, framing, answer)?;
     }
+    if let Some(why) = sent.dropped {
+        let why = format!(in alloc; "{why:?}")?;
+        say(answer, why.as_str())?;
+    }
+    // An equal answer says the same.
+    say_left(alloc, &sent.sent.copy()?, answer)?;
     if let Some(refused) = sent.refused {
         let refused = format!(in alloc; "{refused:?}")?;
         say(answer, refused.as_str())?;
@@ -50,8 +78,8 @@ fn say_all(alloc: Global, sent: &Answer, answer: &mut Bytes) -> Result<(), CaseF
 /// A gateway, and one beside it to which each piece comes byte by byte.
 #[derive(Drop)]
 pub struct Sessions {
-    whole: Gateway,
-    bytewise: Gateway,
+    whole: Gateway<Plain>,
+    bytewise: Gateway<Plain>,
 }
 
 impl Sessions {
@@ -64,7 +92,8 @@ impl Sessions {
     }
 
     /// Adds what each line gives: `new` begins anew, `counter` asks for the greatest row number, `name` for the gateway's name
-    /// and address, `has` for a port; `port`, `unport` and `hangup` are events, and every other line is a session and a piece.
+    /// and address, `has` for a port, `facts` and `show` for the facts of its forwarding state; `port`, `unport`, `hangup`, `frame` and
+    /// `underlay` are events, and every other line is a session and a piece.
     pub fn answer(
         &mut self,
         alloc: Global,
@@ -81,6 +110,8 @@ impl Sessions {
                     self.whole.ip().print(answer)?;
                     answer.push(b'\n')?;
                 }
+                "facts" => say_facts(alloc, self.whole.fib(), answer)?,
+                "show" => say_shown(&self.whole, answer)?,
                 _ => self.take(alloc, word, rest, answer)?,
             }
         }
@@ -112,6 +143,16 @@ impl Sessions {
             },
             "hangup" => Event::Hangup {
                 session: session(rest)?,
+            },
+            "frame" => {
+                let (port, frame) = parts(rest);
+                Event::Frame {
+                    port: Name::parse(port.as_bytes())?,
+                    bytes: bytes(alloc, frame)?,
+                }
+            }
+            "underlay" => Event::Underlay {
+                bytes: bytes(alloc, rest)?,
             },
             _ => return self.take_piece(alloc, session(word)?, rest.as_bytes(), answer),
         };

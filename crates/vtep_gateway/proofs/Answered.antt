@@ -16,7 +16,7 @@ use Rattle.vtep_gateway.proofs.Open.{put_back, not_there}
 pub bytes_answered : (g : Gateway) (s : ℕ) (piece : Bytes) (out more left : Stream) (streams : Streams) (v : Vtep) (sends : List Outgoing) (failed : Option Framing)
     → out ≡ stream_of g.streams s → more ≡ fed out piece → v ≡ (take_all g.vtep s (come more).messages).vtep → sends ≡ (take_all g.vtep s (come more).messages).sends
     → left ≡ (come more).end → failed ≡ left.refused → streams ≡ maps.insert (maps.remove g.streams s) s left
-    → on_bytes g s piece ≡ record { gateway = record { vtep = v; streams = streams }; answer = record { sends = sends; failed = failed; refused = None } }
+    → on_bytes g s piece ≡ record { gateway = record { vtep = v; streams = streams }; answer = record nothing { sends = sends; failed = failed } }
 bytes_answered g s piece out more left streams v sends failed is_out is_more is_v is_sends is_left is_failed is_streams =
     let all : more ≡ fed (stream_of g.streams s) piece = is_more ∙ ap (λ x. fed x piece) is_out in
     rw (is_failed, is_streams ∙ put_back g.streams s left, is_left, is_sends, is_v, all) refl

@@ -145,10 +145,10 @@ no_more_than t s ids most up few within =
 
 -- ---- settled rows after a change
 
-pub settled_after : (r s : Rows) (name : Bytes) (ip : ℕ) (ports : List ℕ) → IsSettled r → IsRows s → Sound s → collected s ≡ s → s.made ≡ r.made
-    → ((i : ℕ) → maps.has s.rows (PhysicalSwitch, i) ≡ maps.has r.rows (PhysicalSwitch, i)) → row_at s (switch_key r) ≡ Some (switch_with name ip ports)
+pub settled_after : (r s : Rows) (ports : List ℕ) (settled : IsSettled r) → IsRows s → Sound s → collected s ≡ s → s.made ≡ r.made
+    → ((i : ℕ) → maps.has s.rows (PhysicalSwitch, i) ≡ maps.has r.rows (PhysicalSwitch, i)) → row_at s (switch_key r) ≡ Some (switch_with settled.name settled.ip ports)
     → Ascending ports → ((i : ℕ) → has_id ports i ≡ maps.has s.rows (port_key i)) → IsSettled s
-settled_after r s nm address ports settled rows sound clean made switches row up own =
+settled_after r s ports settled rows sound clean made switches row up own =
     let same_id : switch_id s ≡ switch_id r = ap (λ m. row_id m 2) made in record {
       rows = rows;
       sound = sound;
@@ -156,11 +156,12 @@ settled_after r s nm address ports settled rows sound clean made switches row up
       only =
           same_ids (ids_of PhysicalSwitch s) (ids_of PhysicalSwitch r) (ids_ascend PhysicalSwitch s) (ids_ascend PhysicalSwitch r) (λ i. has_row PhysicalSwitch s i ∙ switches i ∙ sym (has_row PhysicalSwitch r i))
           ∙ settled.only ∙ ap (λ id. id ∷ []) (sym same_id);
-      name = nm;
-      ip = address;
+      name = settled.name;
+      ip = settled.ip;
+      fits = settled.fits;
       switch =
           ap (λ id. row_at s (PhysicalSwitch, id)) same_id ∙ row
-          ∙ ap (λ ids. Some (switch_with nm address ids)) (same_ids ports (ids_of PhysicalPort s) up (ids_ascend PhysicalPort s) (λ i. own i ∙ sym (has_row PhysicalPort s i)));
+          ∙ ap (λ ids. Some (switch_with settled.name settled.ip ids)) (same_ids ports (ids_of PhysicalPort s) up (ids_ascend PhysicalPort s) (λ i. own i ∙ sym (has_row PhysicalPort s i)));
     }
 
 and_true : (b : Bool) → (b && true) ≡ b

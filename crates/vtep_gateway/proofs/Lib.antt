@@ -15,7 +15,11 @@ pub mod PortJoins
 pub mod PortLeaves
 pub mod PortRows
 pub mod PortNames
+pub mod OwnAddress
+pub mod FrameInner
 pub mod Settling
 pub mod PortAnswers
 pub mod Kept
 pub mod Worked
+pub mod LinesApart
+pub mod ShowWorked

@@ -5,7 +5,7 @@ use Rattle.vtep_base.specs.Texts.{is_name}
 use Rattle.vtep_rows.specs.Rows.{Rows, collected}
 use Rattle.vtep_rows.specs.Database.{Versions}
 use Rattle.vtep_gateway.specs.declared.Outgoing.{Outgoing}
-use Rattle.vtep_gateway.specs.declared.Answer.{Answer}
+use Rattle.vtep_gateway.specs.Gateway.{Answer}
 use Rattle.vtep_gateway.specs.declared.EventRefused.{EventRefused}
 use Rattle.vtep_gateway.specs.declared.EventRefused.TheVariants.{NoPort}
 use Rattle.vtep_gateway.specs.Vtep.{Vtep, with_rows}
@@ -34,6 +34,10 @@ some_so P Q o p e so h = subst (λ x. IfSome x Q) e (by o h)
 pub left_settled : (r after : Rows) (o : Option ℕ) → IsSettled r → is_some o ≡ true → IfSome o (λ id. after ≡ collected (without_port r id)) → IsSettled after
 left_settled r after None before found is = absurd (true≢false (sym found))
 left_settled r after (Some id) before found is = subst IsSettled (sym is) (leave_settled r id before)
+
+pub left_committed : (b v : Versions) (o : Option ℕ) → is_some o ≡ true → IfSome o (λ id. v ≡ record b { current = without_port b.current id }) → v.committed ≡ b.committed
+left_committed b v None found is = absurd (true≢false (sym found))
+left_committed b v (Some id) found is = ap (λ x. x.committed) is
 
 -- ---- the answers
 

@@ -373,7 +373,7 @@ module _ (r : Rows) (name : Bytes) (settled : IsSettled r) (short : length name 
   clean = all_stay after rows_after all_stays
 
   after_settled : IsSettled after
-  after_settled = settled_after r after settled.name settled.ip joined settled rows_after sound clean refl switches at_switch up own
+  after_settled = settled_after r after joined settled rows_after sound clean refl switches at_switch up own
 
   pub join_settled : IsSettled (with_port r name)
   join_settled = subst IsSettled (sym port_joined) after_settled

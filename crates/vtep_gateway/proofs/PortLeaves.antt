@@ -335,7 +335,7 @@ module _ (r : Rows) (id : ℕ) (settled : IsSettled r) where
 
   after_settled : IsSettled after
   after_settled =
-      settled_after r after settled.name settled.ip left settled (still_collected changed rows_changed) sound (twice_collected changed rows_changed) refl
+      settled_after r after left settled (still_collected changed rows_changed) sound (twice_collected changed rows_changed) refl
       (λ i. switches_stay changed i ∙ switches i) left_there up (ports_stay changed (switch_id r) settled.name settled.ip left at_switch own)
 
   pub leave_settled : IsSettled (collected (without_port r id))

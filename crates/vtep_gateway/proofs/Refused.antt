@@ -1,5 +1,5 @@
 -- What is refused changes nothing.
-use Rattle.std.proofs.Common.{◌≡◌, ℕ, Bool, true, false, cond, ◌||◌, [], Option, Some, None, Result, Ok, Err, refl, sym, ap, ◌∙◌}
+use Rattle.std.proofs.Common.{◌≡◌, ℕ, Bool, true, false, cond, ◌||◌, [], Option, Some, None, is_some, Result, Ok, Err, refl, sym, ap, ◌∙◌}
 use Rattle.std.specs.Prelude.{⊤, is_err}
 use Rattle.serde_json.specs.Data.{Data}
 use Rattle.vtep_base.specs.Reading.{Bytes}
@@ -18,13 +18,23 @@ use Rattle.vtep_gateway.specs.Methods.{keep, ended, fails, transact_in, in_datab
 use Rattle.vtep_gateway.specs.Commit.{commit}
 use Rattle.vtep_gateway.specs.Sessions.{stream_of, take_all}
 use Rattle.vtep_gateway.specs.Ports.{port_named, port_refusal, with_port, without_port}
+use Rattle.ether_frames.specs.Frames.{frame_of}
+use Rattle.vtep_gateway.specs.Frames.{frame_answer, on_frame}
 use Rattle.vtep_gateway.specs.Moves.{step, hung_up, settled, changed, port_unless, unport_by}
 use Rattle.vtep_gateway.specs.declared.Event.{Event}
 use Rattle.vtep_gateway.specs.declared.Event.TheVariants as event
 use Rattle.vtep_gateway.specs.declared.EventRefused.{EventRefused}
-use Rattle.vtep_gateway.specs.declared.EventRefused.TheVariants.{NoSession}
+use Rattle.vtep_gateway.specs.declared.EventRefused.TheVariants.{NoSession, NoPort}
 
 -- ---- events
+
+-- a frame changes nothing
+pub frame_leaves : (g : Gateway) (port bytes : Bytes) → (on_frame g port bytes).gateway ≡ g
+frame_leaves g port bytes = by (is_some (port_named g.vtep.rows port))
+  where
+    by : (b : Bool) → (cond b (record { gateway = g; answer = frame_answer g.vtep.rows port (frame_of bytes) }) (refused g NoPort)).gateway ≡ g
+    by true = refl
+    by false = refl
 
 abbrev Stays : Gateway → Step → Type 0
 Stays g s = (why : EventRefused) → s.answer.refused ≡ Some why → s.gateway ≡ g
@@ -59,6 +69,8 @@ refused_stays g (event.Bytes s piece) = quiet_stays g (step g (event.Bytes s pie
 refused_stays g (event.Hangup s) = hangup_stays g s (maps.has g.streams s)
 refused_stays g (event.Port name) = port_stays g name (port_refusal g.vtep.rows name)
 refused_stays g (event.Unport name) = unport_stays g (port_named g.vtep.rows name)
+refused_stays g (event.Frame port bytes) = λ why e. frame_leaves g port bytes
+refused_stays g (event.Underlay bytes) = λ why e. refl
 
 -- ---- transactions
 

@@ -52,6 +52,7 @@ use Rattle.vtep_gateway.proofs.Ascending.{has_row, ids_ascend}
 use Rattle.vtep_gateway.proofs.Collecting.{port_key, switch_key, settled_after, twice_collected, all_stay, still_there, switches_stay, ports_stay}
 use Rattle.vtep_gateway.proofs.Lasting.{operations_leave}
 use Rattle.vtep_gateway.proofs.PortJoins.{join_settled, join_commits}
+use Rattle.vtep_gateway.proofs.Refused.{frame_leaves}
 use Rattle.vtep_gateway.proofs.PortLeaves.{leave_settled, leave_commits}
 
 -- ---- a transaction
@@ -79,7 +80,7 @@ left_has (Some a) (Some b) h = refl
 
 pub left_settled : (r m : Rows) → IsSettled r → LeavesRest r m → broken (collected m) ≡ None → IsSettled (collected m)
 left_settled r m s h none =
-    settled_after r (collected m) s.name s.ip (ids_of PhysicalPort r) s (still_collected m h.rows) (unbroken_sound (collected m) none) (twice_collected m h.rows) h.made
+    settled_after r (collected m) (ids_of PhysicalPort r) s (still_collected m h.rows) (unbroken_sound (collected m) none) (twice_collected m h.rows) h.made
     (λ i. switches_stay m i ∙ switches i)
     (still_there m (switch_key r) (switches_stay m (switch_key r).1 ∙ switches (switch_key r).1 ∙ ap is_some s.switch) ∙ row)
     (ids_ascend PhysicalPort r) (ports_stay m (switch_key r).1 s.name s.ip (ids_of PhysicalPort r) row (λ i. has_row PhysicalPort r i ∙ sym (left_has (row_at r (port_key i)) (row_at m (port_key i)) (h.rest PhysicalPort i refl))))
@@ -164,6 +165,8 @@ step_settled g (event.Bytes s piece) named before = all_settled g.vtep s (come (
 step_settled g (event.Hangup s) named before = hangup_settled g s (maps.has g.streams s) before
 step_settled g (event.Port name) named before = port_settled g name (port_refusal g.vtep.rows name) refl named before
 step_settled g (event.Unport name) named before = unport_settled g (port_named g.vtep.rows name) before
+step_settled g (event.Frame port bytes) named before = subst (λ (h : Gateway). IsSettled h.vtep.rows) (sym (frame_leaves g port bytes)) before
+step_settled g (event.Underlay bytes) named before = before
 
 -- ---- a new gateway
 
@@ -216,6 +219,7 @@ module _ (name : Bytes) (ip : ℕ) (short : length name ≤ 64) (fits : ip < 2 ^
     only = refl;
     name = name;
     ip = ip;
+    fits = fits;
     switch = switch_is;
   }
     where

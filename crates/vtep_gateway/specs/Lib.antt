@@ -6,6 +6,9 @@ pub mod Commit
 pub mod CommitFaults
 pub mod Ports
 pub mod Settled
+pub mod Frames
+pub mod Ready
 pub mod Methods
 pub mod Sessions
 pub mod Moves
+pub mod Show

@@ -14,6 +14,7 @@ use Rattle.vtep_gateway.specs.Vtep.{with_rows, with_monitors}
 use Rattle.vtep_gateway.specs.Monitors.{told_all}
 use Rattle.vtep_gateway.specs.Commit.{commit}
 use Rattle.vtep_gateway.specs.Ports.{port_named, port_refusal, with_port, without_port}
+use Rattle.vtep_gateway.specs.Frames.{on_frame, on_underlay}
 
 -- without the session's stream and its monitors
 abbrev pub hung_up : Gateway → ℕ → Gateway
@@ -50,3 +51,5 @@ step g (event.Bytes s piece) = on_bytes g s piece
 step g (event.Hangup s) = on_hangup g s
 step g (event.Port name) = on_port g name
 step g (event.Unport name) = on_unport g name
+step g (event.Frame port bytes) = on_frame g port bytes
+step g (event.Underlay bytes) = on_underlay g bytes

@@ -1,17 +1,16 @@
 -- What a gateway that is not stopped always has, and what sessions leave as it is.
-use Rattle.std.specs.Prelude.{◌≡◌, ℕ, true, false, Bool, ◌&&◌, List, [], ◌∷◌, map, Option, Some, None, option_and_then, unwrap_or}
+use Rattle.std.specs.Prelude.{◌≡◌, ◌<◌, ◌^◌, ℕ, true, false, Bool, ◌&&◌, List, [], ◌∷◌, map, Option, Some, None}
 use Rattle.vtep_base.specs.Reading.{Bytes}
-use Rattle.vtep_base.specs.Texts.{ipv4_of, is_name}
+use Rattle.vtep_base.specs.Texts.{is_name}
 use Rattle.vtep_base.specs.Maps as maps
-use Rattle.ovsdb_values.specs.declared.atoms.Atom.TheVariants.{Text, Id}
-use Rattle.ovsdb_values.specs.declared.datums.Datum.{Datum}
+use Rattle.ovsdb_values.specs.declared.atoms.Atom.TheVariants.{Id}
 use Rattle.ovsdb_values.specs.declared.datums.Datum.TheVariants as datum
 use Rattle.vtep_schema.specs.declared.Table.{Table}
 use Rattle.vtep_schema.specs.declared.Table.TheVariants.{PhysicalPort, PhysicalSwitch}
 use Rattle.vtep_schema.specs.declared.Column.{Column}
-use Rattle.vtep_schema.specs.declared.Column.TheVariants.{SwitchPorts, SwitchTunnelIps}
+use Rattle.vtep_schema.specs.declared.Column.TheVariants.{SwitchPorts}
 use Rattle.vtep_schema.specs.Tables.{table_rule, belongs, written_by_sessions}
-use Rattle.vtep_rows.specs.Row.{Contents, value_at, with_value, first}
+use Rattle.vtep_rows.specs.Row.{Contents, with_value}
 use Rattle.vtep_rows.specs.Rows.{Rows, IsRows, row_at, ids_of, switch_row, collected}
 use Rattle.vtep_rows.specs.Sound.{Sound}
 use Rattle.vtep_gateway.specs.declared.Event.{Event}
@@ -31,20 +30,8 @@ pub record IsSettled (r : Rows) : Type 0 where
   pub only : ids_of PhysicalSwitch r ≡ switch_id r ∷ []
   pub name : Bytes
   pub ip : ℕ
+  pub fits : ip < 2 ^ 32
   pub switch : row_at r (PhysicalSwitch, switch_id r) ≡ Some (switch_with name ip (ids_of PhysicalPort r))
-
--- the address that is the one text of a set, or 0
-abbrev pub address_in : Datum → ℕ
-address_in (datum.Set (Text t ∷ [])) = unwrap_or (ipv4_of t) 0
-address_in _ = 0
-
-abbrev pub address_of : Option Contents → ℕ
-address_of None = 0
-address_of (Some row) = address_in (value_at row SwitchTunnelIps)
-
--- the tunnel address of the gateway, which its row of Physical_Switch has
-abbrev pub own_address : Rows → ℕ
-own_address r = address_of (option_and_then (λ id. row_at r (PhysicalSwitch, id)) (first (ids_of PhysicalSwitch r)))
 
 -- the name of a port is one
 abbrev pub IsEvent : Event → Type 0

@@ -1,16 +1,18 @@
 //! What follows a change of the rows.
 
-ghost use Rattle.std.specs.Prelude.{◌≡◌, Ok, Err, IfOk, IfErr, OnOk};
+ghost use Rattle.std.specs.Prelude.{◌≡◌, false, Ok, Err, IfOk, IfErr, OnOk};
 ghost use Rattle.vtep_base.specs.Answers.{OrMemory};
 ghost use Rattle.vtep_rows.specs.Changes.{changes};
-ghost use Rattle.vtep_rows.specs.Rows.{collected};
+ghost use Rattle.vtep_rows.specs.Rows.{Rows as AllRows, collected};
 ghost use Rattle.vtep_gateway.specs.Commit.{commit};
 ghost use Rattle.vtep_gateway.specs.CommitFaults.{rule_of};
 ghost use Rattle.vtep_gateway.specs.Settled.{IsSettled};
+ghost use Rattle.vtep_gateway.specs.Ready.{fib_of};
 
+use forward_program::Fib;
 use std::alloc::Global;
-use vtep_base::OutOfMemory;
-use vtep_rows::{Change, Database, Rule};
+use vtep_base::{Ledger, OutOfMemory, Steps};
+use vtep_rows::{Change, Database, Rows, Rule};
 
 /// Why a change is not kept.
 #[derive(Clone, Copy, Drop)]
@@ -63,4 +65,20 @@ pub(crate) fn commit_unchecked(
 {
     database.collect()?;
     database.commit(alloc)
+}
+
+/// The forwarding state follows a commit that led to these rows by this change.
+pub(crate) fn follow<L: Ledger>(
+    alloc: Global,
+    rows: &Rows,
+    change: &Change,
+    fib: &mut Fib<L>,
+    steps: &mut Steps<L>,
+) -> Result<(), OutOfMemory>
+    requires settled { IsSettled rows.now }
+    requires going { fib.old.broken ≡ false }
+    ensures { (before : AllRows) → IsSettled before → change.now ≡ changes before rows.now
+        → fib.old ≡ fib_of before → OnOk result (fib.new ≡ fib_of rows.now) }
+{
+    fib.apply(alloc, rows, change, steps)
 }

@@ -1,9 +1,12 @@
 //! One gateway, as the events that come to it: its tunnel end point, and the sessions that speak with it.
 #![tactic(auto)]
 
+mod answer;
 mod commit;
+mod frames;
 mod gateway;
 mod laws;
+mod lines;
 mod methods;
 mod monitoring;
 mod monitors;
@@ -11,17 +14,21 @@ mod open_monitors;
 mod ports;
 mod replies;
 mod running;
+mod show;
 mod streams;
 mod vtep;
 
+pub use answer::Answer;
+use ether_frames::FrameFault;
 pub use gateway::Gateway;
 pub use laws::{
     events_keep_settled, failed_changes_nothing, names_are_values, new_is_settled, ports_commit,
     refused_changes_nothing, sessions_leave_the_rest, unfinished_changes_nothing,
     updates_are_notifications,
 };
-use rpc_framing::Framing;
-use vtep_base::{Bytes, List, Name};
+pub use show::each_fact_has_a_line;
+use vtep_base::{Bytes, Name};
+use vxlan_frames::PacketFault;
 
 /// What comes to a gateway. Sessions have numbers; 0 is the controller's.
 #[derive(Debug, Drop)]
@@ -34,6 +41,10 @@ pub enum Event {
     Port { name: Name },
     /// The port of this name is taken away.
     Unport { name: Name },
+    /// A frame enters at the port of this name.
+    Frame { port: Name, bytes: Bytes },
+    /// A packet comes from the underlay.
+    Underlay { bytes: Bytes },
 }
 
 /// A message that goes to a session.
@@ -43,6 +54,23 @@ pub struct Outgoing {
     pub session: u32,
     /// The message as one compact JSON text, in UTF-8 (RFC 7047, section 4; RFC 8259).
     pub bytes: Bytes,
+}
+
+/// Why a frame or a packet goes nowhere.
+#[derive(Clone, Copy, Debug, PartialEq, Eq)]
+pub enum Reason {
+    /// The bytes are no frame.
+    Frame(FrameFault),
+    /// The bytes are no packet.
+    Packet(PacketFault),
+    /// The frame's VLAN is bound to no switch at its port.
+    Unbound,
+    /// An ACL of the binding denies the frame.
+    Denied,
+    /// The packet's destination is not the gateway's tunnel address.
+    Address,
+    /// No bound switch has the packet's network.
+    Vni,
 }
 
 /// Why an event changes nothing.
@@ -56,16 +84,4 @@ pub enum EventRefused {
     NoPort,
     /// The session to hang up is not open.
     NoSession,
-}
-
-/// What a gateway does with an event.
-#[derive(Debug, Drop)]
-pub struct Answer {
-    /// The messages that go out, in order. The updates that a request makes stand before its reply.
-    pub sends: List<Outgoing>,
-    /// The refusal of the stream that the piece came to: its place, counted in bytes from the session's first one, and why. Each
-    /// later piece of the session has the same one.
-    pub failed: Option<Framing>,
-    /// Why the event changes nothing, where it is refused. Pieces never are.
-    pub refused: Option<EventRefused>,
 }

@@ -1,12 +1,13 @@
 //! What a request does (RFC 7047, section 4.1).
 
-ghost use Rattle.std.specs.Prelude.{◌≡◌, ◌++◌, [], false, unwrap_or, Ok, IfOk, OnOk};
+ghost use Rattle.std.specs.Prelude.{◌≡◌, ◌++◌, [], false, unwrap_or, None, Ok, IfOk, OnOk};
 ghost use Rattle.transact_profile.specs.Meaning.{means};
 ghost use Rattle.transact_profile.specs.Transaction.{ops_in};
 ghost use Rattle.serde_json.specs.View.{view};
 ghost use Rattle.serde_json.specs.Written.{has_float};
 ghost use Rattle.vtep_gateway.specs.Methods.{method_of, in_database, databases, schema_in, transacted, IsChange, transact_in, called, seen};
 ghost use Rattle.vtep_gateway.specs.Settled.{IsSettled};
+ghost use Rattle.vtep_gateway.specs.Ready.{Leads};
 
 use crate::Outgoing;
 use crate::commit::{CommitFault, commit};
@@ -26,6 +27,26 @@ pub(crate) enum Method {
     Transact,
     Monitor,
     MonitorCancel,
+}
+
+/// What a request comes to.
+#[derive(Drop)]
+pub(crate) struct Called {
+    /// The result, or the word of refusal.
+    pub(crate) outcome: Result<Value, Word>,
+    /// How the rows differ after it; None where they are as they were.
+    pub(crate) change: Option<Change>,
+}
+
+/// What a request comes to that changes no row.
+fn reads(outcome: Result<Value, Word>) -> Called
+    ensures outcome { result.outcome ≡ outcome }
+    ensures change { result.change ≡ None }
+{
+    Called {
+        outcome,
+        change: None,
+    }
 }
 
 /// The method of this name.
@@ -81,20 +102,23 @@ fn schema_in(alloc: Global, params: &Value) -> Result<Result<Value, Word>, OutOf
 fn transacted(
     alloc: Global,
     database: &mut Database,
-    params: &Value,
+    params: Value,
 ) -> Result<(Value, Option<Change>), OutOfMemory>
     requires { IsSettled database.old.current }
     ensures value { IfOk result (λ t. view t.0
-        ≡ (transacted (means (ops_in (view params.now)) database.old.current)).0) }
+        ≡ (transacted (means (ops_in (view params)) database.old.current)).0) }
     ensures rows { OnOk result (database.new.current ≡ unwrap_or (transacted
-        (means (ops_in (view params.now)) database.old.current)).1 database.old.current) }
+        (means (ops_in (view params)) database.old.current)).1 database.old.current) }
     ensures change { IfOk result (λ t. IsChange t.1 database.old.current (transacted
-        (means (ops_in (view params.now)) database.old.current)).1) }
+        (means (ops_in (view params)) database.old.current)).1) }
     ensures plain { IfOk result (λ t. has_float (view t.0) ≡ false) }
 {
-    let ops = read_ops(alloc, params)?;
+    let ops = read_ops(alloc, &params)?;
+    // They may be the largest part of what is held, so neither stays longer than it has to.
+    drop(params);
     database.begin();
     let outcome = transact_on(alloc, database, &ops)?;
+    drop(ops);
     if outcome.failed {
         return Ok((finish(alloc, &outcome, None)?, None));
     }
@@ -109,28 +133,32 @@ impl Vtep {
     /// Runs a transaction, for those who name the database.
     fn transact_in(
         &mut self,
-        params: &Value,
+        params: Value,
         sends: &mut List<Outgoing>,
-    ) -> Result<Result<Value, Word>, OutOfMemory>
+    ) -> Result<Called, OutOfMemory>
         requires { IsSettled self.old.rows }
         ensures left { IfOk result (λ _. self.new
-            ≡ (transact_in self.old (view params.now) (in_database (view params.now))).vtep) }
+            ≡ (transact_in self.old (view params) (in_database (view params))).vtep) }
         ensures before { IfOk result
             (λ _. sends.new ≡ sends.old
-            ++ (transact_in self.old (view params.now) (in_database (view params.now))).before) }
+            ++ (transact_in self.old (view params) (in_database (view params))).before) }
         ensures result { IfOk result
-            (λ r. seen r ≡ (transact_in self.old (view params.now)
-            (in_database (view params.now))).result) }
-        ensures plain { IfOk result (λ r. IfOk r (λ v. has_float (view v) ≡ false)) }
+            (λ c. seen c.outcome ≡ (transact_in self.old (view params)
+            (in_database (view params))).result) }
+        ensures change { IfOk result (λ c. Leads c.change self.old.rows self.new.rows) }
+        ensures plain { IfOk result (λ c. IfOk c.outcome (λ v. has_float (view v) ≡ false)) }
     {
-        if let Err(word) = in_database(params) {
-            return Ok(Err(word));
+        if let Err(word) = in_database(&params) {
+            return Ok(reads(Err(word)));
         }
         let (results, change) = transacted(self.alloc, &mut self.database, params)?;
-        if let Some(change) = change {
-            self.monitors.tell(self.alloc, &change, sends)?;
+        if let Some(change) = &change {
+            self.monitors.tell(self.alloc, change, sends)?;
         }
-        Ok(Ok(results))
+        Ok(Called {
+            outcome: Ok(results),
+            change,
+        })
     }
 
     /// Does what a session requests. Adds what is sent before the reply, and gives the result or the word of refusal.
@@ -140,7 +168,7 @@ impl Vtep {
         method: Option<Method>,
         params: Value,
         sends: &mut List<Outgoing>,
-    ) -> Result<Result<Value, Word>, OutOfMemory>
+    ) -> Result<Called, OutOfMemory>
         requires settled { IsSettled self.old.rows }
         requires plain { has_float (view params) ≡ false }
         ensures left { IfOk result (λ _. self.new
@@ -148,17 +176,18 @@ impl Vtep {
         ensures before { IfOk result
             (λ _. sends.new ≡ sends.old ++ (called self.old session method (view params)).before) }
         ensures result { IfOk result
-            (λ r. seen r ≡ (called self.old session method (view params)).result) }
-        ensures plain { IfOk result (λ r. IfOk r (λ v. has_float (view v) ≡ false)) }
+            (λ c. seen c.outcome ≡ (called self.old session method (view params)).result) }
+        ensures change { IfOk result (λ c. Leads c.change self.old.rows self.new.rows) }
+        ensures plain { IfOk result (λ c. IfOk c.outcome (λ v. has_float (view v) ≡ false)) }
     {
         match method {
-            Some(Method::Echo) => Ok(Ok(params)),
-            Some(Method::ListDbs) => Ok(Ok(databases(self.alloc)?)),
-            Some(Method::GetSchema) => schema_in(self.alloc, &params),
-            Some(Method::Transact) => self.transact_in(&params, sends),
-            Some(Method::Monitor) => self.monitor(session, &params),
-            Some(Method::MonitorCancel) => self.monitor_cancel(session, &params),
-            None => Ok(Err(Word::UnknownMethod)),
+            Some(Method::Echo) => Ok(reads(Ok(params))),
+            Some(Method::ListDbs) => Ok(reads(Ok(databases(self.alloc)?))),
+            Some(Method::GetSchema) => Ok(reads(schema_in(self.alloc, &params)?)),
+            Some(Method::Transact) => self.transact_in(params, sends),
+            Some(Method::Monitor) => Ok(reads(self.monitor(session, &params)?)),
+            Some(Method::MonitorCancel) => Ok(reads(self.monitor_cancel(session, &params)?)),
+            None => Ok(reads(Err(Word::UnknownMethod))),
         }
     }
 }

@@ -96,6 +96,7 @@ impl Vtep {
         ensures left { IfOk result (λ _. self.new
             ≡ (monitor_in self.old session (view params.now)).vtep) }
         ensures quiet { (monitor_in self.old session (view params.now)).before ≡ [] }
+        ensures rows { self.new.rows ≡ self.old.rows }
         ensures result { IfOk result
             (λ r. seen r ≡ (monitor_in self.old session (view params.now)).result) }
         ensures plain { IfOk result (λ r. IfOk r (λ v. has_float (view v) ≡ false)) }
@@ -125,6 +126,7 @@ impl Vtep {
         ensures left { IfOk result (λ _. self.new
             ≡ (cancel_in self.old session (view params.now)).vtep) }
         ensures quiet { (cancel_in self.old session (view params.now)).before ≡ [] }
+        ensures rows { self.new.rows ≡ self.old.rows }
         ensures result { IfOk result
             (λ r. seen r ≡ (cancel_in self.old session (view params.now)).result) }
         ensures plain { IfOk result (λ r. IfOk r (λ v. has_float (view v) ≡ false)) }

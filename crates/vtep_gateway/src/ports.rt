@@ -12,12 +12,12 @@ ghost use Rattle.vtep_gateway.specs.declared.EventRefused.TheVariants.{NoPort};
 ghost use Rattle.vtep_rows.specs.declared.row.RowFault.TheVariants as row_fault;
 ghost use Rattle.vtep_gateway.specs.CommitFaults.{refusal_of};
 ghost use Rattle.vtep_gateway.specs.Ports.{is_text, port_named, is_full, port_refusal, changed_ports, changed_switch, Takes, with_ports, port_row, with_port, without_port};
-ghost use Rattle.vtep_gateway.specs.Settled.{IsSettled, own_address, address_in};
+ghost use Rattle.vtep_gateway.specs.Settled.{IsSettled};
 
 use crate::EventRefused;
 use ovsdb_values::{Atom, AtomSet, Datum};
 use std::alloc::Global;
-use vtep_base::{Ipv4, List, Name, OutOfMemory, RowId, Txt};
+use vtep_base::{List, Name, OutOfMemory, RowId, Txt};
 use vtep_rows::{Database, Ids, Row, RowFault, Rows, RowsFault};
 use vtep_schema::{Column, Table, most};
 
@@ -94,35 +94,6 @@ pub(crate) fn has_port(rows: &Rows, name: &Name) -> bool
         }
     }
     false
-}
-
-/// The tunnel address that the row of Physical_Switch has, or 0.0.0.0. Takes no memory.
-pub(crate) fn own_address(rows: &Rows) -> Ipv4
-    ensures { result ≡ own_address rows.now }
-{
-    let Some(id) = rows.ids(Table::PhysicalSwitch).next() else {
-        return Ipv4::from_bits(0);
-    };
-    match rows.get(Table::PhysicalSwitch, id) {
-        Some(row) => address_in(row.value(Column::SwitchTunnelIps)),
-        None => Ipv4::from_bits(0),
-    }
-}
-
-/// The address that is the one text of a set, or 0.0.0.0.
-fn address_in(datum: &Datum) -> Ipv4
-    ensures { result ≡ address_in datum.now }
-{
-    let Datum::Set(set) = datum else {
-        return Ipv4::from_bits(0);
-    };
-    match set.as_slice() {
-        [Atom::Text(text)] => match Ipv4::parse(text.as_slice()) {
-            Ok(ip) => ip,
-            Err(_) => Ipv4::from_bits(0),
-        },
-        _ => Ipv4::from_bits(0),
-    }
 }
 
 /// As many identifiers are left, at least.

@@ -9,15 +9,17 @@ ghost use Rattle.rpc_framing.specs.Written.{message_json};
 ghost use Rattle.rpc_framing.specs.Pieces.{come};
 ghost use Rattle.vtep_gateway.specs.Methods.{seen};
 ghost use Rattle.vtep_gateway.specs.Settled.{IsSettled};
+ghost use Rattle.vtep_gateway.specs.Ready.{fib_of};
 ghost use Rattle.vtep_gateway.specs.Sessions.{response, outgoing, take, take_all};
 
 use crate::Outgoing;
-use crate::methods::method_of;
+use crate::methods::{Called, method_of};
 use crate::vtep::Vtep;
+use forward_program::Fib;
 use rpc_framing::{Framer, Framing, Message, NextFault, print};
 use serde_json::Value;
 use std::alloc::Global;
-use vtep_base::{Bytes, List, OutOfMemory, Word};
+use vtep_base::{Bytes, Ledger, List, OutOfMemory, Steps, Word};
 
 /// The text of a word of refusal.
 fn text_of(alloc: Global, word: Word) -> Result<String, OutOfMemory>
@@ -73,16 +75,20 @@ fn reply(
 }
 
 impl Vtep {
-    /// Answers a message of a session.
-    fn take(
+    /// Answers a message of a session. The forwarding state follows.
+    fn take<L: Ledger>(
         &mut self,
         session: u32,
         message: Message,
+        fib: &mut Fib<L>,
+        steps: &mut Steps<L>,
         sends: &mut List<Outgoing>,
     ) -> Result<(), OutOfMemory>
         requires settled { IsSettled self.old.rows }
+        requires fib { fib.old ≡ fib_of self.old.rows }
         requires plain { has_float (message_json (said message)) ≡ false }
         ensures settled { OnOk result (IsSettled self.new.rows) }
+        ensures fib { OnOk result (fib.new ≡ fib_of self.new.rows) }
         ensures left { OnOk result (self.new ≡ (take self.old session (said message)).vtep) }
         ensures sends { OnOk result (sends.new ≡ sends.old
             ++ (take self.old session (said message)).sends) }
@@ -90,19 +96,26 @@ impl Vtep {
         let Message::Request { method, params, id } = message else {
             return Ok(());
         };
-        let outcome = self.called(session, method_of(method.as_str()), params, sends)?;
+        let method = method_of(method.as_str());
+        let Called { outcome, change } = self.called(session, method, params, sends)?;
+        self.follow(&change, fib, steps)?;
         sends.push(reply(self.alloc, session, outcome, id)?)
     }
 
-    /// Answers the messages that come of a session's stream, in order, and gives the stream's refusal.
-    pub(crate) fn take_all(
+    /// Answers the messages that come of a session's stream, in order, and gives the stream's refusal. The forwarding state
+    /// follows each of them before the next is answered.
+    pub(crate) fn take_all<L: Ledger>(
         &mut self,
         session: u32,
         framer: &mut Framer,
+        fib: &mut Fib<L>,
+        steps: &mut Steps<L>,
         sends: &mut List<Outgoing>,
     ) -> Result<Option<Framing>, OutOfMemory>
         requires settled { IsSettled self.old.rows }
+        requires fib { fib.old ≡ fib_of self.old.rows }
         ensures settled { OnOk result (IsSettled self.new.rows) }
+        ensures fib { OnOk result (fib.new ≡ fib_of self.new.rows) }
         ensures left { IfOk result (λ _. self.new
             ≡ (take_all self.old session (come framer.old).messages).vtep) }
         ensures sends { IfOk result (λ _. sends.new ≡ sends.old
@@ -112,7 +125,7 @@ impl Vtep {
     {
         'messages: loop {
             match framer.next() {
-                Ok(Some(message)) => self.take(session, message, sends)?,
+                Ok(Some(message)) => self.take(session, message, fib, steps, sends)?,
                 Ok(None) => return Ok(None),
                 Err(NextFault::Refused(framing)) => return Ok(Some(framing)),
                 Err(NextFault::OutOfMemory) => return Err(OutOfMemory),

@@ -1,77 +1,57 @@
 //! What a gateway does with events, while it is not stopped.
 
-ghost use Rattle.std.specs.Prelude.{◌≡◌, Some, IfOk, OnOk};
+ghost use Rattle.std.specs.Prelude.{◌≡◌, ◌++◌, IfOk, OnOk, OnErr};
+ghost use Rattle.forward_program.specs.Joins.{facts_of};
+ghost use Rattle.forward_program.specs.Shown.{shown};
 ghost use Rattle.vtep_gateway.specs.Gateway.{new_gateway, nothing};
 ghost use Rattle.vtep_gateway.specs.Sessions.{on_bytes};
-ghost use Rattle.vtep_gateway.specs.Settled.{IsSettled};
+ghost use Rattle.vtep_gateway.specs.Ready.{IsReady};
+ghost use Rattle.vtep_gateway.specs.Frames.{on_frame, on_underlay};
+ghost use Rattle.vtep_gateway.specs.Show.{show_text};
 ghost use Rattle.vtep_gateway.specs.Moves.{on_hangup, on_port, on_unport, step};
 
+use crate::frames::{take_frame, take_packet};
 use crate::monitors::Monitors;
-use crate::ports::PortFault;
+use crate::ports::{PortFault, port_named};
+use crate::show::show;
 use crate::streams::Streams;
 use crate::vtep::Vtep;
-use crate::{Answer, Event, EventRefused, Outgoing};
+use crate::{Answer, Event, EventRefused};
+use forward_program::{Fib, Hops};
 use std::alloc::Global;
 use std::marker::Model;
-use vtep_base::{Bytes, Ipv4, List, Name, OutOfMemory};
+use vtep_base::{Bytes, Ipv4, Ledger, List, Name, OutOfMemory, Steps};
 use vtep_rows::{Database, Rows};
 
 /// The state of a gateway. After an `Err` nothing is claimed of it.
 #[derive(Drop)]
-pub(crate) struct Running {
+pub(crate) struct Running<L: Ledger> {
     alloc: Global,
     vtep: Vtep,
     streams: Streams,
+    fib: Fib<L>,
+    /// Where the last frame went; it keeps its room for the next.
+    hops: Hops<L>,
 }
 
-impl Model for Running {
+impl<L: Ledger> Model for Running<L> {
     ghost use Rattle.vtep_gateway.specs.Gateway as gateway;
-    ghost use Rattle.vtep_gateway.specs.Gateway.{gateway_code};
+    ghost use Rattle.vtep_gateway.specs.Gateway.{running_code};
 
-    ghost Value = { gateway.Gateway };
+    ghost Value = { gateway.Running };
 
-    ghost coded = { gateway_code };
+    ghost coded = { running_code };
 
-    ghost view = { λ g. record { vtep = g.vtep; streams = g.streams } };
+    ghost view = { λ g. record {
+      state = record { vtep = g.vtep; streams = g.streams };
+      fib = g.fib;
+    } };
 }
 
-/// What an event comes to of which nothing goes out.
-fn nothing(alloc: Global) -> Answer
-    ensures { result ≡ nothing }
-{
-    Answer {
-        sends: List::new(alloc),
-        failed: None,
-        refused: None,
-    }
-}
-
-/// What an event comes to of which the monitors are told.
-fn told(sends: List<Outgoing>) -> Answer
-    ensures { result ≡ record nothing { sends = sends } }
-{
-    Answer {
-        sends,
-        failed: None,
-        refused: None,
-    }
-}
-
-/// What an event comes to that is refused.
-fn refused(alloc: Global, why: EventRefused) -> Answer
-    ensures { result ≡ record nothing { refused = Some why } }
-{
-    Answer {
-        sends: List::new(alloc),
-        failed: None,
-        refused: Some(why),
-    }
-}
-
-impl Running {
-    pub(crate) fn new(alloc: Global, name: Name, ip: Ipv4) -> Result<Running, OutOfMemory>
-        ensures value { IfOk result (λ g. g ≡ new_gateway name ip) }
-        ensures settled { IfOk result (λ g. IsSettled g.vtep.rows) }
+impl<L: Ledger> Running<L> {
+    pub(crate) fn new(alloc: Global, name: Name, ip: Ipv4) -> Result<Running<L>, OutOfMemory>
+        ensures value { IfOk result (λ g. g.state ≡ new_gateway name ip) }
+        ensures ready { IfOk result IsReady }
     {
         // They say that the name is one and that the address has 32 bits.
         let _ = name.as_slice().len();
@@ -86,88 +66,155 @@ impl Running {
                 monitors: Monitors::new(alloc),
             },
             streams: Streams::new(alloc),
+            fib: Fib::new(alloc),
+            hops: Hops::new(alloc),
         })
     }
 
     pub(crate) fn name(&self) -> &Name
-        ensures { result.now ≡ self.now.vtep.name }
+        ensures { result.now ≡ self.now.state.vtep.name }
     {
         &self.vtep.name
     }
 
     pub(crate) fn rows(&self) -> &Rows
-        ensures { result.now ≡ self.now.vtep.rows }
+        ensures { result.now ≡ self.now.state.vtep.rows }
     {
         self.vtep.rows()
     }
 
-    fn on_bytes(&mut self, session: u32, piece: &Bytes) -> Result<Answer, OutOfMemory>
-        requires { IsSettled self.old.vtep.rows }
-        ensures ok { IfOk result (λ a. on_bytes self.old session piece.now
-            ≡ record { gateway = self.new; answer = a }) }
-        ensures settled { OnOk result (IsSettled self.new.vtep.rows) }
+    pub(crate) fn fib(&self) -> &Fib<L>
+        ensures { result.now ≡ self.now.fib }
+    {
+        &self.fib
+    }
+
+    /// Appends what `show` tells.
+    pub(crate) fn show(&self, out: &mut Bytes) -> Result<(), OutOfMemory>
+        requires { IsReady self.now }
+        ensures ok { OnOk result (out.new ≡ out.old ++ show_text self.now.state.vtep.name
+            self.now.state.vtep.rows (facts_of (shown self.now.state.vtep.rows))) }
+        ensures err { OnErr result (out.new ≡ out.old) }
+    {
+        let mut text = Bytes::new(self.alloc);
+        self.write_facts(&mut text)?;
+        out.append(text.as_slice())
+    }
+
+    fn write_facts(&self, out: &mut Bytes) -> Result<(), OutOfMemory>
+        requires { IsReady self.now }
+        ensures { OnOk result (out.new ≡ out.old ++ show_text self.now.state.vtep.name
+            self.now.state.vtep.rows (facts_of (shown self.now.state.vtep.rows))) }
+    {
+        show(self.alloc, self.name(), self.rows(), self.fib(), out)
+    }
+
+    fn on_bytes(
+        &mut self,
+        session: u32,
+        piece: &Bytes,
+        steps: &mut Steps<L>,
+    ) -> Result<Answer<L>, OutOfMemory>
+        requires { IsReady self.old }
+        ensures ok { IfOk result (λ a. on_bytes self.old.state session piece.now
+            ≡ record { gateway = self.new.state; answer = a }) }
+        ensures ready { OnOk result (IsReady self.new) }
     {
         let mut framer = self.streams.take(session);
         framer.feed(piece.as_slice())?;
         let mut sends = List::new(self.alloc);
-        let failed = self.vtep.take_all(session, &mut framer, &mut sends)?;
+        let failed = self
+            .vtep
+            .take_all(session, &mut framer, &mut self.fib, steps, &mut sends)?;
         self.streams.put(session, framer)?;
-        Ok(Answer {
-            sends,
-            failed,
-            refused: None,
-        })
+        Ok(Answer::said(self.alloc, sends, failed))
     }
 
-    fn on_hangup(&mut self, session: u32) -> Answer
-        ensures ok { on_hangup self.old session ≡ record { gateway = self.new; answer = result } }
-        ensures rows { self.new.vtep.rows ≡ self.old.vtep.rows }
+    fn on_hangup(&mut self, session: u32) -> Answer<L>
+        requires { IsReady self.old }
+        ensures ok { on_hangup self.old.state session
+            ≡ record { gateway = self.new.state; answer = result } }
+        ensures ready { IsReady self.new }
     {
         if !self.streams.close(session) {
-            return refused(self.alloc, EventRefused::NoSession);
+            return Answer::refused(self.alloc, EventRefused::NoSession);
         }
         self.vtep.close_monitors(session);
-        nothing(self.alloc)
+        Answer::nothing(self.alloc)
     }
 
-    fn on_port(&mut self, name: &Name) -> Result<Answer, OutOfMemory>
-        requires { IsSettled self.old.vtep.rows }
-        ensures ok { IfOk result (λ a. on_port self.old name.now
-            ≡ record { gateway = self.new; answer = a }) }
-        ensures settled { OnOk result (IsSettled self.new.vtep.rows) }
+    fn on_port(&mut self, name: &Name, steps: &mut Steps<L>) -> Result<Answer<L>, OutOfMemory>
+        requires { IsReady self.old }
+        ensures ok { IfOk result (λ a. on_port self.old.state name.now
+            ≡ record { gateway = self.new.state; answer = a }) }
+        ensures ready { OnOk result (IsReady self.new) }
     {
-        match self.vtep.add_port(name) {
-            Ok(sends) => Ok(told(sends)),
-            Err(PortFault::Refused(why)) => Ok(refused(self.alloc, why)),
+        match self.vtep.add_port(name, &mut self.fib, steps) {
+            Ok(sends) => Ok(Answer::said(self.alloc, sends, None)),
+            Err(PortFault::Refused(why)) => Ok(Answer::refused(self.alloc, why)),
             Err(PortFault::OutOfMemory) => Err(OutOfMemory),
         }
     }
 
-    fn on_unport(&mut self, name: &Name) -> Result<Answer, OutOfMemory>
-        requires { IsSettled self.old.vtep.rows }
-        ensures ok { IfOk result (λ a. on_unport self.old name.now
-            ≡ record { gateway = self.new; answer = a }) }
-        ensures settled { OnOk result (IsSettled self.new.vtep.rows) }
+    fn on_unport(&mut self, name: &Name, steps: &mut Steps<L>) -> Result<Answer<L>, OutOfMemory>
+        requires { IsReady self.old }
+        ensures ok { IfOk result (λ a. on_unport self.old.state name.now
+            ≡ record { gateway = self.new.state; answer = a }) }
+        ensures ready { OnOk result (IsReady self.new) }
     {
-        match self.vtep.remove_port(name) {
-            Ok(sends) => Ok(told(sends)),
-            Err(PortFault::Refused(why)) => Ok(refused(self.alloc, why)),
+        match self.vtep.remove_port(name, &mut self.fib, steps) {
+            Ok(sends) => Ok(Answer::said(self.alloc, sends, None)),
+            Err(PortFault::Refused(why)) => Ok(Answer::refused(self.alloc, why)),
             Err(PortFault::OutOfMemory) => Err(OutOfMemory),
         }
+    }
+
+    fn on_frame(&mut self, port: &Name, bytes: &Bytes) -> Result<Answer<L>, OutOfMemory>
+        requires { IsReady self.old }
+        ensures ok { IfOk result (λ a. on_frame self.old.state port.now bytes.now
+            ≡ record { gateway = self.new.state; answer = a }) }
+        ensures ready { OnOk result (IsReady self.new) }
+    {
+        let rows = self.vtep.rows();
+        if port_named(self.alloc, rows, port)?.is_none() {
+            return Ok(Answer::refused(self.alloc, EventRefused::NoPort));
+        }
+        take_frame(self.alloc, rows, &self.fib, &mut self.hops, port, bytes)
+    }
+
+    fn on_underlay(&mut self, bytes: &Bytes) -> Result<Answer<L>, OutOfMemory>
+        requires { IsReady self.old }
+        ensures ok { IfOk result (λ a. on_underlay self.old.state bytes.now
+            ≡ record { gateway = self.new.state; answer = a }) }
+        ensures ready { OnOk result (IsReady self.new) }
+    {
+        take_packet(
+            self.alloc,
+            self.vtep.rows(),
+            &self.fib,
+            &mut self.hops,
+            bytes,
+        )
     }
 
     /// Does what an event asks for, and gives what goes out.
-    pub(crate) fn answer(&mut self, event: &Event) -> Result<Answer, OutOfMemory>
-        requires { IsSettled self.old.vtep.rows }
-        ensures ok { IfOk result (λ a. step self.old event.now
-            ≡ record { gateway = self.new; answer = a }) }
-        ensures settled { OnOk result (IsSettled self.new.vtep.rows) }
+    pub(crate) fn answer(
+        &mut self,
+        event: &Event,
+        steps: &mut Steps<L>,
+    ) -> Result<Answer<L>, OutOfMemory>
+        requires { IsReady self.old }
+        ensures ok { IfOk result (λ a. step self.old.state event.now
+            ≡ record { gateway = self.new.state; answer = a }) }
+        ensures ready { OnOk result (IsReady self.new) }
     {
         match event {
-            Event::Bytes { session, piece } => self.on_bytes(*session, piece),
+            Event::Bytes { session, piece } => self.on_bytes(*session, piece, steps),
             Event::Hangup { session } => Ok(self.on_hangup(*session)),
-            Event::Port { name } => self.on_port(name),
-            Event::Unport { name } => self.on_unport(name),
+            Event::Port { name } => self.on_port(name, steps),
+            Event::Unport { name } => self.on_unport(name, steps),
+            Event::Frame { port, bytes } => self.on_frame(port, bytes),
+            Event::Underlay { bytes } => self.on_underlay(bytes),
         }
     }
 }

@@ -8,5 +8,5 @@ use Rattle.forward_program.proofs.fib.Fib.put_binding.Goals as goal
 
 pub returns-clause-ok : goal.returns-clause-ok
 returns-clause-ok g c =
-    subst (λ (m : Entries). OnOk c.put-2.result (c.put-2.new.self.entries ≡ maps.insert m (spot.Switch c.args.bound.1 (part.Member c.args.port c.args.bound.0)) (held.Lists c.args.lists)))
-    c.in_ok-put.ensures.ok c.put-2.ensures.ok
+    subst (λ (m : Entries). OnOk c.put_new-2.result (c.put_new-2.new.self.entries ≡ maps.insert m (spot.Switch c.args.bound.1 (part.Member c.args.port c.args.bound.0)) (held.Lists c.args.lists)))
+    c.in_ok-put_new.ensures.ok c.put_new-2.ensures.ok

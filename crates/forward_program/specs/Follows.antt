@@ -1,0 +1,65 @@
+-- How the forwarding state follows a change of rows: the places of what was are emptied, and then what is is put.
+use Rattle.std.specs.Prelude.{◌≡◌, ◌⊎◌, ℕ, Bool, true, not, ◌&&◌, List, [], ◌++◌, map, flat_map, Option, Some, None, option_and_then}
+use Rattle.std.specs.Option.{option_to_list}
+use Rattle.vtep_base.specs.Maps as maps
+use Rattle.vtep_schema.specs.declared.Table.{Table}
+use Rattle.vtep_schema.specs.declared.Table.TheVariants.{PhysicalSwitch}
+use Rattle.vtep_schema.specs.declared.Column.TheVariants.{SwitchTunnelIps}
+use Rattle.vtep_schema.specs.Tables.{same_table}
+use Rattle.vtep_rows.specs.declared.differences.RowChange.{RowChange}
+use Rattle.vtep_rows.specs.Row.{Contents, is_row}
+use Rattle.forward_program.specs.declared.spots.Spot.{Spot}
+use Rattle.forward_program.specs.Readings.{ip_at}
+use Rattle.forward_program.specs.Same.{same_number}
+use Rattle.forward_program.specs.Built.{IsIn, bindings_of}
+use Rattle.forward_program.specs.Spots.{Entries}
+use Rattle.forward_program.specs.Shown.{Entry, binding_entries, row_entries}
+
+-- ---- the rows of a change
+
+-- what a row of a table has, where it is there
+abbrev pub entries_if : ℕ → Table → ℕ → Option Contents → List Entry
+entries_if own t id None = []
+entries_if own t id (Some row) = row_entries own t (id, row)
+
+abbrev pub entries_before : ℕ → List RowChange → List Entry
+entries_before own change = flat_map (λ c. entries_if own c.table c.id c.old) change
+
+abbrev pub entries_after : ℕ → List RowChange → List Entry
+entries_after own change = flat_map (λ c. entries_if own c.table c.id c.new) change
+
+-- nothing was there, or what is a row
+abbrev pub was_row : Option Contents → Bool
+was_row None = true
+was_row (Some row) = is_row row
+
+-- ---- the places that are emptied
+
+abbrev pub places : List Entry → List Spot
+places es = map (λ e. e.0) es
+
+-- the places of one or of two entries, or of none
+abbrev pub both_of : Option Spot × Option Spot → List Spot
+both_of p = option_to_list p.0 ++ option_to_list p.1
+
+-- the places of the bindings of a port, where it is there
+abbrev pub port_places : Option Contents → List Spot
+port_places None = []
+port_places (Some row) = places (flat_map binding_entries (bindings_of row))
+
+-- a port has these two places
+abbrev pub IsBound : Option Contents → Spot → Spot → Type 0
+IsBound row k l = IsIn k (port_places row) × IsIn l (port_places row)
+
+-- of the places outside `staying` those of `gone` are empty, and the others are as they were
+abbrev pub IsCleared : Entries → Entries → List Spot → List Spot → Type 0
+IsCleared m n gone staying = (k : Spot) → (IsIn k staying → ⊥) → (IsIn k gone × (maps.get n k ≡ None)) ⊎ ((IsIn k gone → ⊥) × (maps.get n k ≡ maps.get m k))
+
+-- ---- the gateway's own address
+
+abbrev pub tunnel_ip : Option Contents → Option ℕ
+tunnel_ip row = option_and_then (λ r. ip_at r SwitchTunnelIps) row
+
+-- the row is one of Physical_Switch, and its address is another one
+abbrev pub moves_own : RowChange → Bool
+moves_own c = same_table c.table PhysicalSwitch && not (same_number (tunnel_ip c.old) (tunnel_ip c.new))

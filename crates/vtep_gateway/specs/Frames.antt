@@ -1,0 +1,66 @@
+-- What a gateway does with the frames of its ports (IEEE 802.3) and with the packets of the underlay (RFC 7348).
+use Rattle.std.specs.Prelude.{ℕ, ◌==◌, if◌then◌else◌, map, Option, Some, None, is_some, Result, Ok, Err}
+use Rattle.vtep_base.specs.Reading.{Bytes}
+use Rattle.ether_frames.specs.declared.FrameFault.{FrameFault}
+use Rattle.ether_frames.specs.Frames.{frame_of}
+use Rattle.vxlan_frames.specs.declared.PacketFault.{PacketFault}
+use Rattle.vxlan_frames.specs.Packets.{packet_of}
+use Rattle.vtep_rows.specs.Rows.{Rows}
+use Rattle.forward_program.specs.declared.hops.Origin.{Origin}
+use Rattle.forward_program.specs.declared.hops.Origin.TheVariants as origin
+use Rattle.forward_program.specs.declared.hops.Outcome.{Outcome}
+use Rattle.forward_program.specs.declared.hops.Outcome.TheVariants as outcome
+use Rattle.forward_program.specs.Readings.{own_ip}
+use Rattle.forward_program.specs.Built.{built}
+use Rattle.forward_program.specs.Hop.{Way, hop, ways_of}
+use Rattle.forward_program.specs.Sent.{Sent, out_of, packets_of}
+use Rattle.vtep_gateway.specs.declared.Reason.{Reason}
+use Rattle.vtep_gateway.specs.declared.Reason.TheVariants as reason
+use Rattle.vtep_gateway.specs.declared.EventRefused.TheVariants.{NoPort}
+use Rattle.vtep_gateway.specs.Gateway.{Gateway, Answer, Step, nothing, refused}
+use Rattle.vtep_gateway.specs.Ports.{port_named}
+
+-- where a frame goes by the facts that are built from the rows
+abbrev pub way : Rows → Origin → Bytes → Way
+way r from inner = hop (ways_of (built r)) from inner
+
+abbrev pub why_nowhere : Outcome → Option Reason
+why_nowhere outcome.Done = None
+why_nowhere outcome.Unbound = Some reason.Unbound
+why_nowhere outcome.Denied = Some reason.Denied
+why_nowhere outcome.NoVni = Some reason.Vni
+
+-- the frame as it leaves at the ports, in their order, and a packet to each address, ascending
+abbrev pub sent_along : ℕ → Way → Bytes → Sent
+sent_along own w inner = record { outs = map (out_of inner) w.ports; packets = packets_of own w.vni w.addresses inner }
+
+abbrev pub dropped : Reason → Answer
+dropped why = record nothing { dropped = Some why }
+
+abbrev pub sent_unless : Option Reason → Sent → Answer
+sent_unless None sent = record nothing { sent = sent }
+sent_unless (Some why) sent = dropped why
+
+-- a frame goes its way, or nowhere
+abbrev pub forwarded : Rows → Origin → Bytes → Answer
+forwarded r from inner = sent_unless (why_nowhere (way r from inner).outcome) (sent_along (own_ip r) (way r from inner) inner)
+
+-- ---- a frame that enters at a port
+
+abbrev pub frame_answer : Rows → Bytes → Result (ℕ × Bytes) FrameFault → Answer
+frame_answer r port (Ok f) = forwarded r (origin.Port port f.0) f.1
+frame_answer r port (Err fault) = dropped (reason.Frame fault)
+
+abbrev pub on_frame : Gateway → Bytes → Bytes → Step
+on_frame g port bytes =
+    if is_some (port_named g.vtep.rows port) then record { gateway = g; answer = frame_answer g.vtep.rows port (frame_of bytes) }
+    else refused g NoPort
+
+-- ---- a packet from the underlay, of which source and destination, network and frame are read
+
+abbrev pub packet_answer : Rows → Result (ℕ × ℕ × ℕ × Bytes) PacketFault → Answer
+packet_answer r (Ok p) = if p.1 == own_ip r then forwarded r (origin.Tunnel p.2) p.3 else dropped reason.Address
+packet_answer r (Err fault) = dropped (reason.Packet fault)
+
+abbrev pub on_underlay : Gateway → Bytes → Step
+on_underlay g bytes = record { gateway = g; answer = packet_answer g.vtep.rows (packet_of bytes) }
