@@ -1,16 +1,31 @@
 //! The same work as the program's, written plainly over the standard library: what a proof costs is measured beside it.
-use std::collections::{BTreeMap, HashMap, HashSet};
+use std::collections::{BTreeMap, BTreeSet, HashMap, HashSet};
 use std::io::{self, BufRead, Write};
 
+/// The gateways by name, and the intent.
 struct Plain {
-    name: String,
-    ip: u32,
-    ports: Vec<String>,
+    gateways: BTreeMap<String, Gateway>,
     switches: BTreeMap<String, u32>,
     bindings: BTreeMap<(String, String, u16), String>,
-    installed: Vec<(String, u16, String)>,
+}
+
+struct Gateway {
+    name: String,
+    ip: u32,
+    ports: BTreeMap<String, u64>,
     sessions: BTreeMap<u32, Vec<u8>>,
     database: Database,
+    forwarding: Option<Forwarding>,
+}
+
+/// Where frames go by the rows of a gateway; switches are numbers of rows.
+struct Forwarding {
+    bindings: Vec<(String, u16, u64)>,
+    networks: BTreeMap<u32, u64>,
+    keys: HashMap<u64, u32>,
+    addresses: BTreeMap<(u64, String), u32>,
+    floods: HashMap<u64, Vec<u32>>,
+    names: HashMap<u64, String>,
 }
 
 type Row = BTreeMap<String, Json>;
@@ -334,13 +349,25 @@ fn message_end(stream: &[u8]) -> Option<usize> {
     None
 }
 
+fn id_of(ip: u32, number: u64) -> Json {
+    Json::List(vec![text("uuid"), Json::Text(format!("{ip:08x}-0000-8000-8000-{number:012x}"))])
+}
+
+fn ip_text(ip: u32) -> String {
+    let [a, b, c, d] = ip.to_be_bytes();
+    format!("{a}.{b}.{c}.{d}")
+}
+
 /// The columns of a table with their defaults.
 fn defaults(table: &str) -> Option<(&'static str, Row)> {
     let empty = || Json::List(vec![text("set"), Json::List(Vec::new())]);
     let (name, columns): (_, &[(&str, Option<&str>)]) = match table {
         "ACL_entry" => ("ACL_entry", &[]),
         "Logical_Switch" => ("Logical_Switch", &[("description", Some("")), ("name", Some("")), ("replication_mode", None), ("tunnel_key", None)]),
+        "Mcast_Macs_Remote" => ("Mcast_Macs_Remote", &[("ipaddr", Some(""))]),
         "Physical_Locator" => ("Physical_Locator", &[]),
+        "Physical_Locator_Set" => ("Physical_Locator_Set", &[]),
+        "Physical_Port" => ("Physical_Port", &[("description", Some(""))]),
         "Ucast_Macs_Remote" => ("Ucast_Macs_Remote", &[("ipaddr", Some(""))]),
         _ => return None,
     };
@@ -358,11 +385,34 @@ fn reference(value: &Json) -> Option<u64> {
     }
 }
 
+/// The numbers of all rows that a value names: one, those of a set, or those of a map.
+fn references(value: &Json) -> Vec<u64> {
+    if let Some(number) = reference(value) {
+        return vec![number];
+    }
+    match (value.item(0).and_then(Json::text), value.item(1)) {
+        (Some("set"), Some(Json::List(items))) => items.iter().filter_map(reference).collect(),
+        (Some("map"), Some(Json::List(pairs))) => pairs.iter().filter_map(|pair| reference(pair.item(1)?)).collect(),
+        _ => Vec::new(),
+    }
+}
+
+/// A value in which the names of new rows stand for their numbers.
+fn resolved(value: &Json, names: &HashMap<String, Json>) -> Json {
+    let Json::List(items) = value else { return value.clone() };
+    let name = value.item(1).and_then(Json::text).filter(|_| value.item(0).and_then(Json::text) == Some("named-uuid"));
+    match name.and_then(|name| names.get(name)) {
+        Some(id) => id.clone(),
+        None => Json::List(items.iter().map(|item| resolved(item, names)).collect()),
+    }
+}
+
 fn unique_keys(table: &'static str, row: &Row) -> Vec<(&'static str, String)> {
     let columns: &[&[&str]] = match table {
         "Logical_Switch" => &[&["name"], &["tunnel_key"]],
         "Physical_Locator" => &[&["dst_ip"]],
-        "Ucast_Macs_Remote" => &[&["logical_switch", "MAC"]],
+        "Physical_Port" => &[&["name"]],
+        "Ucast_Macs_Remote" | "Mcast_Macs_Remote" => &[&["logical_switch", "MAC"]],
         _ => &[],
     };
     let mut keys = Vec::new();
@@ -388,7 +438,7 @@ impl Database {
         for key in unique_keys(table, &row) {
             unique &= self.keys.insert(key);
         }
-        for number in row.values().filter_map(reference) {
+        for number in row.values().flat_map(references) {
             *self.named.entry(number).or_insert(0) += 1;
         }
         self.rows.insert((table, number), row);
@@ -400,7 +450,7 @@ impl Database {
         for key in unique_keys(table, &row) {
             self.keys.remove(&key);
         }
-        for number in row.values().filter_map(reference) {
+        for number in row.values().flat_map(references) {
             if let Some(count) = self.named.get_mut(&number) {
                 *count -= 1;
             }
@@ -408,16 +458,21 @@ impl Database {
         Some(row)
     }
 
-    /// Runs insertions, and deletions and selections by identifier. Locators and entries that nothing names go at the end.
+    /// The rows of a table, by number.
+    fn rows_of(&self, table: &'static str) -> impl Iterator<Item = (u64, &Row)> {
+        self.rows.range((table, 0)..=(table, u64::MAX)).map(|((_, number), row)| (*number, row))
+    }
+
+    /// Runs insertions, and updates, deletions and selections by identifier. What has to be named and is not goes at the end.
     fn transact(&mut self, ip: u32, operations: &[Json]) -> Option<Vec<Json>> {
-        let id_of = |number: u64| Json::List(vec![text("uuid"), Json::Text(format!("{ip:08x}-0000-8000-8000-{number:012x}"))]);
+        let id_of = |number: u64| id_of(ip, number);
         let (before, mut results, mut names) = (self.counter, Vec::new(), HashMap::new());
         let (mut came, mut went, mut error) = (Vec::new(), Vec::new(), None);
         let mut next = self.counter;
         for operation in operations.iter().filter(|o| o.member("op").and_then(Json::text) == Some("insert")) {
             next += 1;
             if let Some(name) = operation.member("uuid-name").and_then(Json::text) {
-                names.insert(name.to_string(), next);
+                names.insert(name.to_string(), id_of(next));
             }
         }
         for operation in operations {
@@ -432,15 +487,29 @@ impl Database {
                     let (table, mut row) = defaults(operation.member("table")?.text()?)?;
                     let Json::Object(given) = operation.member("row")? else { return None };
                     for (column, value) in given {
-                        let named = value.item(1).and_then(Json::text).and_then(|name| names.get(name));
-                        let named = named.filter(|_| value.item(0).and_then(Json::text) == Some("named-uuid"));
-                        row.insert(column.clone(), named.map_or_else(|| value.clone(), |number| id_of(*number)));
+                        row.insert(column.clone(), resolved(value, &names));
                     }
                     if !self.put(table, self.counter, row) {
                         return None;
                     }
                     came.push((table, self.counter));
                     results.push(object(vec![("uuid", id_of(self.counter))]));
+                }
+                "update" => {
+                    let (table, _) = defaults(operation.member("table")?.text()?)?;
+                    let number = wanted()?;
+                    let Json::Object(given) = operation.member("row")? else { return None };
+                    let old = self.take(table, number);
+                    if let Some(old) = &old {
+                        let mut row = old.clone();
+                        for (column, value) in given {
+                            row.insert(column.clone(), resolved(value, &names));
+                        }
+                        if !self.put(table, number, row) {
+                            return None;
+                        }
+                    }
+                    results.push(object(vec![("count", Json::Number(old.is_some() as i64))]));
                 }
                 "delete" => {
                     let (table, _) = defaults(operation.member("table")?.text()?)?;
@@ -478,7 +547,7 @@ impl Database {
             return Some(results);
         }
         for (table, number) in came {
-            if matches!(table, "ACL_entry" | "Physical_Locator") && !there(&self.named, &number) {
+            if matches!(table, "ACL_entry" | "Physical_Locator" | "Physical_Locator_Set") && !there(&self.named, &number) {
                 self.take(table, number);
             }
         }
@@ -489,7 +558,98 @@ impl Database {
     }
 }
 
-impl Plain {
+impl Forwarding {
+    fn of(database: &Database) -> Option<Forwarding> {
+        let (mut bindings, mut networks, mut keys, mut names) = (Vec::new(), BTreeMap::new(), HashMap::new(), HashMap::new());
+        for (_, row) in database.rows_of("Physical_Port") {
+            let Some(Json::List(pairs)) = row.get("vlan_bindings").and_then(|map| map.item(1)) else { continue };
+            for pair in pairs {
+                let Some(Json::Number(vlan)) = pair.item(0) else { return None };
+                bindings.push((row.get("name")?.text()?.to_string(), *vlan as u16, reference(pair.item(1)?)?));
+            }
+        }
+        bindings.sort();
+        for (number, row) in database.rows_of("Logical_Switch") {
+            if let (true, Some(Json::Number(key))) = (bindings.iter().any(|(_, _, switch)| *switch == number), row.get("tunnel_key")) {
+                networks.insert(*key as u32, number);
+                keys.insert(number, *key as u32);
+            }
+            names.insert(number, row.get("name")?.text()?.to_string());
+        }
+        let locator = |number: u64| ipv4(database.rows.get(&("Physical_Locator", number))?.get("dst_ip")?.text()?.as_bytes());
+        let mut addresses = BTreeMap::new();
+        for (_, row) in database.rows_of("Ucast_Macs_Remote") {
+            let place = (reference(row.get("logical_switch")?)?, row.get("MAC")?.text()?.to_string());
+            addresses.insert(place, locator(reference(row.get("locator")?)?)?);
+        }
+        let mut floods = HashMap::new();
+        for (_, row) in database.rows_of("Mcast_Macs_Remote") {
+            let set = database.rows.get(&("Physical_Locator_Set", reference(row.get("locator_set")?)?))?;
+            let mut ips: Vec<u32> = references(set.get("locators")?).into_iter().map(locator).collect::<Option<_>>()?;
+            ips.sort();
+            floods.insert(reference(row.get("logical_switch")?)?, ips);
+        }
+        Some(Forwarding { bindings, networks, keys, addresses, floods, names })
+    }
+
+    /// Where a frame of a port goes: to ports of the gateway, and in packets to addresses.
+    fn flood(&self, name: &str, port: &str, vlan: u16, inner: &[u8], out: &mut Vec<u8>) -> (u32, Vec<u32>) {
+        let Some((_, _, switch)) = self.bindings.iter().find(|(p, v, _)| p == port && *v == vlan) else {
+            out.extend_from_slice(format!("drop {name} unbound\n").as_bytes());
+            return (0, Vec::new());
+        };
+        if inner[..6] == inner[6..12] {
+            return (0, Vec::new());
+        }
+        let key = self.keys.get(switch);
+        if inner[0] & 1 == 0 && !self.addresses.is_empty() {
+            let mac: Vec<String> = inner[..6].iter().map(|b| format!("{b:02x}")).collect();
+            if let Some(ip) = self.addresses.get(&(*switch, mac.join(":"))) {
+                return (key.copied().unwrap_or(0), key.map_or_else(Vec::new, |_| vec![*ip]));
+            }
+        }
+        self.leave(name, *switch, Some((port, vlan)), inner, out);
+        (key.copied().unwrap_or(0), key.and_then(|_| self.floods.get(switch)).cloned().unwrap_or_default())
+    }
+
+    fn leave(&self, name: &str, switch: u64, entered: Option<(&str, u16)>, inner: &[u8], out: &mut Vec<u8>) {
+        for (p, v, s) in &self.bindings {
+            if *s == switch && entered != Some((p.as_str(), *v)) {
+                out.extend_from_slice(b"out ");
+                out.extend_from_slice(name.as_bytes());
+                out.push(b' ');
+                out.extend_from_slice(p.as_bytes());
+                out.push(b' ');
+                push_hex(&tagged(*v, inner), out);
+                out.push(b'\n');
+            }
+        }
+    }
+
+    fn show(&self, name: &str, ip: u32, out: &mut Vec<u8>) {
+        let mut lines = vec![format!("show {name} {}", ip_text(ip))];
+        lines.extend(self.networks.iter().map(|(key, switch)| format!("vni {key} \"{}\"", self.names[switch])));
+        lines.extend(self.bindings.iter().map(|(port, vlan, switch)| format!("bind {port} {vlan} \"{}\"", self.names[switch])));
+        let bound = |switch: &u64| self.bindings.iter().any(|(_, _, s)| s == switch);
+        let mut floods: Vec<_> = self.floods.iter().filter(|(switch, _)| bound(switch)).map(|(switch, ips)| (&self.names[switch], ips)).collect();
+        floods.sort();
+        for (switch, ips) in floods {
+            let ips: Vec<String> = ips.iter().map(|ip| ip_text(*ip)).collect();
+            lines.push(format!("flood \"{switch}\" unknown-dst {}", ips.join(" ")));
+        }
+        for line in lines {
+            out.extend_from_slice(line.as_bytes());
+            out.push(b'\n');
+        }
+    }
+}
+
+impl Gateway {
+    fn new(name: String, ip: u32) -> Gateway {
+        let database = Database { counter: 2, rows: BTreeMap::new(), named: HashMap::new(), keys: HashSet::new() };
+        Gateway { name, ip, ports: BTreeMap::new(), sessions: BTreeMap::new(), database, forwarding: None }
+    }
+
     fn answer(&mut self, message: &[u8]) -> Option<Json> {
         let message = Reader { text: message, at: 0 }.value()?;
         let Json::Object(mut members) = message else { return None };
@@ -502,15 +662,15 @@ impl Plain {
         Some(object(vec![("error", Json::Null), ("id", id), ("result", Json::List(result))]))
     }
 
-    fn rpc(&mut self, w: &[(usize, &[u8])], out: &mut Vec<u8>) -> Answer {
-        let session = value(w[2], |word| number(word, u32::MAX))?;
-        let piece = value(w[3], bytes_of)?;
-        self.knows(w[1])?;
+    /// Answers each whole message of a session's stream. What frames go by is made anew when the next one comes.
+    fn take(&mut self, session: u32, piece: &[u8], out: &mut Vec<u8>) {
         let mut stream = self.sessions.remove(&session).unwrap_or_default();
-        stream.extend_from_slice(&piece);
+        stream.extend_from_slice(piece);
+        self.forwarding = None;
         while let Some(end) = message_end(&stream) {
             let rest = stream.split_off(end);
-            if let Some(answer) = self.answer(&stream) {
+            let answer = self.answer(&stream);
+            if let (Some(answer), true) = (answer, session != 0) {
                 out.extend_from_slice(format!("rpc {} {session} ", self.name).as_bytes());
                 answer.write(out);
                 out.push(b'\n');
@@ -518,67 +678,171 @@ impl Plain {
             stream = rest;
         }
         self.sessions.insert(session, stream);
+    }
+
+    fn port(&mut self, port: String) {
+        let (table, mut row) = defaults("Physical_Port").unwrap();
+        self.database.counter += 1;
+        row.insert("name".to_string(), Json::Text(port.clone()));
+        self.database.put(table, self.database.counter, row);
+        self.ports.insert(port, self.database.counter);
+    }
+
+    /// Name, address, and what frames go by.
+    fn parts(&mut self) -> (&str, u32, &Forwarding) {
+        let Gateway { name, ip, database, forwarding, .. } = self;
+        (name, *ip, forwarding.get_or_insert_with(|| Forwarding::of(database).unwrap()))
+    }
+
+    /// A packet from the underlay is read, and its frame leaves at the ports of its network's switch.
+    fn underlay(&mut self, packet: &[u8], out: &mut Vec<u8>) {
+        let (name, ip, forwarding) = self.parts();
+        let drop = match packet_of(packet) {
+            Err((kind, at)) => format!("packet {kind} {at}"),
+            Ok(_) if destination(packet) != ip => "address".to_string(),
+            Ok((vni, inner)) => match forwarding.networks.get(&vni) {
+                None => "vni".to_string(),
+                Some(_) if inner[..6] == inner[6..12] => return,
+                Some(switch) => return forwarding.leave(name, *switch, None, inner, out),
+            },
+        };
+        out.extend_from_slice(format!("drop {name} {drop}\n").as_bytes());
+    }
+}
+
+/// An insertion, whose row other operations name by its number.
+fn insert(table: &str, number: usize, row: Vec<(&str, Json)>) -> Json {
+    object(vec![("op", text("insert")), ("table", text(table)), ("row", object(row)), ("uuid-name", Json::Text(format!("r{number}")))])
+}
+
+fn named(number: usize) -> Json {
+    Json::List(vec![text("named-uuid"), Json::Text(format!("r{number}"))])
+}
+
+fn collected(word: &str, items: Vec<Json>) -> Json {
+    Json::List(vec![text(word), Json::List(items)])
+}
+
+impl Plain {
+    fn new() -> Plain {
+        Plain { gateways: BTreeMap::new(), switches: BTreeMap::new(), bindings: BTreeMap::new() }
+    }
+
+    fn at(&mut self, word: (usize, &[u8])) -> Result<&mut Gateway, Refusal> {
+        let found = std::str::from_utf8(word.1).ok().and_then(|name| self.gateways.get_mut(name));
+        found.map_or_else(|| refuse(word.0, "unknown"), Ok)
+    }
+
+    fn rpc(&mut self, w: &[(usize, &[u8])], out: &mut Vec<u8>) -> Answer {
+        let session = value(w[2], |word| number(word, u32::MAX))?;
+        let piece = value(w[3], bytes_of)?;
+        self.at(w[1])?.take(session, &piece, out);
         Ok(())
     }
 
-    fn new() -> Plain {
-        Plain {
-            name: String::new(),
-            ip: 0,
-            ports: Vec::new(),
-            switches: BTreeMap::new(),
-            bindings: BTreeMap::new(),
-            installed: Vec::new(),
-            sessions: BTreeMap::new(),
-            database: Database { counter: 2, rows: BTreeMap::new(), named: HashMap::new(), keys: HashSet::new() },
-        }
-    }
-
-    fn knows(&self, word: (usize, &[u8])) -> Answer {
-        if self.name.as_bytes() == word.1 { Ok(()) } else { refuse(word.0, "unknown") }
-    }
-
-    fn flood(&self, port: &str, vlan: u16, inner: &[u8], out: &mut Vec<u8>) {
-        let Some((_, _, switch)) = self.installed.iter().find(|(p, v, _)| p == port && *v == vlan) else {
-            out.extend_from_slice(format!("drop {} unbound\n", self.name).as_bytes());
-            return;
-        };
-        if inner[..6] == inner[6..12] {
-            return;
-        }
-        for (p, v, s) in &self.installed {
-            if s == switch && (p != port || *v != vlan) {
-                out.extend_from_slice(format!("out {} {p} ", self.name).as_bytes());
-                push_hex(&tagged(*v, inner), out);
-                out.push(b'\n');
-            }
-        }
-    }
-
-    fn frame(&self, w: &[(usize, &[u8])], out: &mut Vec<u8>) -> Answer {
-        value(w[1], name)?;
+    fn frame(&mut self, w: &[(usize, &[u8])], out: &mut Vec<u8>) -> Answer {
         let port = value(w[2], name)?;
         let bytes = value(w[3], bytes_of)?;
-        self.knows(w[1])?;
-        if !self.ports.contains(&port) {
+        let gateway = self.at(w[1])?;
+        if !gateway.ports.contains_key(&port) {
             return refuse(w[2].0, "unknown");
         }
-        match frame_of(&bytes) {
-            Ok((vlan, inner)) => self.flood(&port, vlan, &inner, out),
-            Err((kind, at)) => out.extend_from_slice(format!("drop {} frame {kind} {at}\n", self.name).as_bytes()),
+        let (name, ip, forwarding) = gateway.parts();
+        let (vlan, inner) = match frame_of(&bytes) {
+            Ok(read) => read,
+            Err((kind, at)) => {
+                out.extend_from_slice(format!("drop {name} frame {kind} {at}\n").as_bytes());
+                return Ok(());
+            }
+        };
+        let (vni, ips) = forwarding.flood(name, &port, vlan, &inner, out);
+        let packets: Vec<Vec<u8>> = ips.iter().map(|to| packet(ip, *to, vni, &inner)).collect();
+        for packet in packets {
+            let to = destination(&packet);
+            match self.gateways.values_mut().find(|gateway| gateway.ip == to) {
+                Some(gateway) => gateway.underlay(&packet, out),
+                None => out.extend_from_slice(format!("lost {}\n", ip_text(to)).as_bytes()),
+            }
         }
         Ok(())
+    }
+
+    /// The switches that each gateway has bindings of, at ports that are there.
+    fn wanted(&self) -> BTreeMap<&str, BTreeSet<&str>> {
+        let at = |gateway: &Gateway| {
+            let bindings = self.bindings.iter().filter(|((g, p, _), _)| *g == gateway.name && gateway.ports.contains_key(p));
+            bindings.map(|(_, switch)| switch.as_str()).collect()
+        };
+        self.gateways.iter().map(|(name, gateway)| (name.as_str(), at(gateway))).collect()
+    }
+
+    /// What a gateway is asked to do: locators, switches, the bindings of its ports, and where else each switch is.
+    fn request(&self, gateway: &Gateway, wanted: &BTreeMap<&str, BTreeSet<&str>>) -> Vec<u8> {
+        let (mut operations, mut locators, mut switches) = (Vec::new(), BTreeMap::new(), BTreeMap::new());
+        let mut floods: Vec<(&str, BTreeSet<u32>)> = Vec::new();
+        for switch in &wanted[gateway.name.as_str()] {
+            let others = self.gateways.values().filter(|g| g.name != gateway.name && wanted[g.name.as_str()].contains(switch));
+            let ips: BTreeSet<u32> = others.map(|g| g.ip).collect();
+            floods.push((*switch, ips));
+        }
+        for ip in floods.iter().flat_map(|(_, ips)| ips).collect::<BTreeSet<_>>() {
+            locators.insert(*ip, operations.len());
+            let row = vec![("dst_ip", Json::Text(ip_text(*ip))), ("encapsulation_type", text("vxlan_over_ipv4"))];
+            operations.push(insert("Physical_Locator", operations.len(), row));
+        }
+        for switch in &wanted[gateway.name.as_str()] {
+            switches.insert(*switch, operations.len());
+            let key = Json::Number(i64::from(self.switches[*switch]));
+            let row = vec![("name", text(switch)), ("replication_mode", text("source_node")), ("tunnel_key", key)];
+            operations.push(insert("Logical_Switch", operations.len(), row));
+        }
+        let mut next = operations.len();
+        for (port, number) in &gateway.ports {
+            let from = (gateway.name.clone(), port.clone(), 0);
+            let here = self.bindings.range(from..).take_while(|((g, p, _), _)| *g == gateway.name && p == port);
+            let pairs: Vec<Json> = here.map(|((_, _, vlan), switch)| Json::List(vec![Json::Number(i64::from(*vlan)), named(switches[switch.as_str()])])).collect();
+            if pairs.is_empty() {
+                continue;
+            }
+            let row = object(vec![("acl_bindings", collected("map", Vec::new())), ("vlan_bindings", collected("map", pairs))]);
+            let id = Json::List(vec![Json::List(vec![text("_uuid"), text("=="), id_of(gateway.ip, *number)])]);
+            operations.push(object(vec![("op", text("update")), ("table", text("Physical_Port")), ("where", id), ("row", row)]));
+        }
+        for (switch, ips) in floods.iter().filter(|(_, ips)| !ips.is_empty()) {
+            let set = collected("set", ips.iter().map(|ip| named(locators[ip])).collect());
+            operations.push(insert("Physical_Locator_Set", next, vec![("locators", set)]));
+            let row = vec![("MAC", text("unknown-dst")), ("locator_set", named(next)), ("logical_switch", named(switches[switch]))];
+            operations.push(insert("Mcast_Macs_Remote", next + 1, row));
+            next += 2;
+        }
+        if operations.is_empty() {
+            return Vec::new();
+        }
+        let mut message = Vec::new();
+        let params = [text("hardware_vtep")].into_iter().chain(operations).collect();
+        object(vec![("method", text("transact")), ("params", Json::List(params)), ("id", Json::Number(2))]).write(&mut message);
+        message
+    }
+
+    fn settle(&mut self, out: &mut Vec<u8>) {
+        let wanted = self.wanted();
+        let requests: Vec<Vec<u8>> = self.gateways.values().map(|gateway| self.request(gateway, &wanted)).collect();
+        for (gateway, request) in self.gateways.values_mut().zip(requests) {
+            gateway.take(0, &request, out);
+            gateway.parts();
+        }
+        out.extend_from_slice(b"settled\n");
     }
 
     fn run(&mut self, w: &[(usize, &[u8])], out: &mut Vec<u8>) -> Answer {
         match w[0].1 {
             b"gateway" => {
-                self.name = value(w[1], name)?;
-                self.ip = value(w[2], ipv4)?;
+                let name = value(w[1], name)?;
+                self.gateways.insert(name.clone(), Gateway::new(name, value(w[2], ipv4)?));
             }
             b"port" => {
-                self.knows(w[1])?;
-                self.ports.push(value(w[2], name)?);
+                let port = value(w[2], name)?;
+                self.at(w[1])?.port(port);
             }
             b"switch" => {
                 self.switches.insert(value(w[1], name)?, value(w[2], |t| number(t, 0xff_ffff))?);
@@ -587,12 +851,12 @@ impl Plain {
                 let vlan = value(w[4], |t| number(t, 4095))? as u16;
                 self.bindings.insert((value(w[2], name)?, value(w[3], name)?, vlan), value(w[1], name)?);
             }
-            b"settle" => {
-                let there = self.bindings.iter().filter(|((_, p, _), _)| self.ports.contains(p));
-                self.installed = there.map(|((_, p, v), s)| (p.clone(), *v, s.clone())).collect();
-                out.extend_from_slice(b"settled\n");
-            }
+            b"settle" => self.settle(out),
             b"frame" => self.frame(w, out)?,
+            b"show" => {
+                let (name, ip, forwarding) = self.at(w[1])?.parts();
+                forwarding.show(name, ip, out);
+            }
             b"rpc" => self.rpc(w, out)?,
             _ => return refuse(w[0].0, "command"),
         }
@@ -629,6 +893,29 @@ fn packet_of(b: &[u8]) -> Result<(u32, &[u8]), (&'static str, usize)> {
     check(b[h + 28..h + 30] != [0x81, 0], "InnerTag", h + 28)?;
     check(u <= 9232, "InnerLong", h + 9232)?;
     Ok((u32::from_be_bytes([0, b[h + 12], b[h + 13], b[h + 14]]), &b[h + 16..h + u]))
+}
+
+fn destination(packet: &[u8]) -> u32 {
+    u32::from_be_bytes([packet[16], packet[17], packet[18], packet[19]])
+}
+
+/// The packet that carries a frame.
+fn packet(from: u32, to: u32, vni: u32, inner: &[u8]) -> Vec<u8> {
+    let length = (36 + inner.len()) as u16;
+    let mut header = vec![0x45, 0, 0, 0, 0, 0, 0x40, 0, 64, 17, 0, 0];
+    header[2..4].copy_from_slice(&length.to_be_bytes());
+    header.extend_from_slice(&from.to_be_bytes());
+    header.extend_from_slice(&to.to_be_bytes());
+    let check = 0xffff - sum(&header) as u16;
+    header[10..12].copy_from_slice(&check.to_be_bytes());
+    let port = 49152 + inner[..14].iter().map(|b| u16::from(*b)).sum::<u16>() % 16384;
+    for word in [port, 4789, length - 20, 0] {
+        header.extend_from_slice(&word.to_be_bytes());
+    }
+    header.extend_from_slice(&[8, 0, 0, 0]);
+    header.extend_from_slice(&(vni << 8).to_be_bytes());
+    header.extend_from_slice(inner);
+    header
 }
 
 fn show(bytes: &[u8], out: &mut Vec<u8>) {

@@ -1,9 +1,7 @@
 pub mod WordsLemmas
-pub mod PlainLemmas
-pub mod SessionLemmas
-pub mod PortLemmas
+pub mod SessionsOfLines
 pub mod LinesOfPieces
-pub mod HexText
+pub mod WordOfParts
 pub mod Ends
 mod SoFar
 mod Completes

@@ -1,4 +1,3 @@
 pub mod Seen
-pub mod PlainWorld
 pub mod Stages
 pub mod Outcomes

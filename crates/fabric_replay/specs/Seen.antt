@@ -1,9 +1,13 @@
--- How definitions see the words of the code.
-use Rattle.std.specs.Prelude.{◌≡◌, ℕ, suc, ◌+◌, ◌<◌, ◌^◌, length, Option, Some, None, Result, Ok, Err, ◌==◌, if◌then◌else◌, List, [], ◌∷◌}
+-- How definitions see the words of the code, and what is known of what they say.
+use Rattle.std.specs.Prelude.{◌≡◌, ℕ, suc, ◌+◌, ◌<◌, ◌≤◌, ◌^◌, length, Option, Some, None, Result, Ok, Err, ◌==◌, if◌then◌else◌, List, [], ◌∷◌}
 use Rattle.vtep_base.specs.Answers.{OrMemory}
 use Rattle.vtep_base.specs.Reading.{Bytes}
 use Rattle.fabric_world.specs.Text as text
 use Rattle.fabric_world.specs.declared.Refusal.{Refusal}
+use Rattle.fabric_world.specs.declared.Line.{Line}
+use Rattle.fabric_world.specs.declared.Line.TheVariants as line
+use Rattle.fabric_world.specs.declared.Instruction.{Instruction}
+use Rattle.fabric_world.specs.declared.Instruction.TheVariants.{Do, End}
 use Rattle.fabric_replay.specs.declared.words.Word.{Word}
 use Rattle.fabric_replay.specs.declared.lines.LineFault.{LineFault}
 use Rattle.fabric_replay.specs.declared.lines.LineFault.TheVariants as line_fault
@@ -32,3 +36,13 @@ Fails fault read = OrMemory (refusal_of fault) (λ why. read ≡ Err why)
 abbrev pub Reads : {A : Type 0} → Result A LineFault → Result A Refusal → Type 0
 Reads (Ok a) read = read ≡ Ok a
 Reads (Err e) read = Fails e read
+
+-- a line of a session is not one of session 0, the controller's
+abbrev pub HasSession : Line → Type 0
+HasSession (line.Rpc l) = 1 ≤ l.session
+HasSession (line.Hangup l) = 1 ≤ l.session
+HasSession _ = Unit {0}
+
+abbrev pub DoesHaveSession : Instruction → Type 0
+DoesHaveSession (Do line) = HasSession line
+DoesHaveSession End = Unit {0}

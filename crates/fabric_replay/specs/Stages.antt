@@ -3,7 +3,6 @@ use Rattle.std.specs.Prelude.{◌≡◌, ℕ, Option, Some, None, ◌+◌, ◌<�
 use Rattle.vtep_base.specs.Reading.{Bytes}
 use Rattle.fabric_world.specs.Script.{Stage, Waiting, Going, Over, Stopped, Inspecting, play_one, play, behind, Played, Reading, Short, Meaning, IsGoing}
 use Rattle.fabric_world.specs.Text.{cut, NoFeed}
-use Rattle.fabric_replay.specs.PlainWorld.{world_of}
 use Rattle.fabric_replay.specs.declared.script.Stage as code
 use Rattle.fabric_replay.specs.declared.script.Stage.TheVariants as script
 use Rattle.fabric_replay.specs.declared.script.Halt.{Halt}
@@ -11,7 +10,7 @@ use Rattle.fabric_replay.specs.declared.script.Halt.TheVariants as halt
 
 abbrev pub stage_of : code.Stage → Stage
 stage_of (script.Waiting n) = Waiting n
-stage_of (script.Going n w) = Going n (world_of w)
+stage_of (script.Going n fabric) = Going n fabric.world
 stage_of script.Over = Over
 stage_of (script.Stopped n why) = Stopped n why
 stage_of (script.Inspecting n) = Inspecting n
@@ -30,10 +29,14 @@ after_line None n stage = stage
 after_line (Some halt.Over) n stage = Over
 after_line (Some (halt.Refused why)) n stage = Stopped n why
 
--- a line was played, and what it writes stands behind what was written before
-pub record Plays (old : Stage) (line before : Bytes) (new : Stage) (after : Bytes) : Type 0 where
-  pub text : after ≡ before ++ (play_one old line).text
-  pub stage : new ≡ (play_one old line).stage
+-- something was played, and what it writes stands behind what was written before
+pub record Performs (p : Played) (before : Bytes) (new : Stage) (after : Bytes) : Type 0 where
+  pub text : after ≡ before ++ p.text
+  pub stage : new ≡ p.stage
+
+-- so was a line
+abbrev pub Plays : Stage → Bytes → Bytes → Stage → Bytes → Type 0
+Plays old line before new after = Performs (play_one old line) before new after
 
 -- the first line feed stands at this place
 pub record EndsLine (text : Bytes) (at : ℕ) : Type 0 where

@@ -1,13 +1,11 @@
 //! Scripts: their lines, what the fabric does with them, and the top call.
 #![tactic(auto)]
 
-mod hexadecimal;
 mod lines;
-mod plain;
+mod packets;
 mod reader;
 mod replay;
 mod script;
-mod sessions;
 mod words;
 
 pub use crate::replay::run;

@@ -7,12 +7,13 @@ ghost use Rattle.fabric_world.specs.Text as text;
 ghost use Rattle.fabric_replay.specs.Seen.{seen, Reads, AllFit};
 
 use crate::words::{Word, bad_byte};
-use fabric_world::{Instruction, Kind, Line, Network, Refusal};
+use fabric_world::{
+    FrameLine, GatewayLine, HangupLine, Instruction, Intent, Kind, Line, PortLine, Refusal,
+    RpcLine, SettleLine, ShowLine, UnderlayLine, UnportLine,
+};
 use hex::FromHexError;
 use std::alloc::Global;
-use vtep_base::{
-    Binding, Bytes, Ipv4, LineReason, Mode, Name, OutOfMemory, Vlan, Vni, parse_number,
-};
+use vtep_base::{Bytes, Ipv4, LineReason, Mode, Name, OutOfMemory, Vlan, Vni, parse_number};
 
 /// Why a line is not read.
 #[derive(Clone, Copy, Debug)]
@@ -50,7 +51,7 @@ fn refusal(column: usize, reason: LineReason) -> Refusal
 }
 
 /// All kinds of lines.
-const KINDS: [Kind; 11] = [
+const KINDS: [Kind; 12] = [
     Kind::Gateway,
     Kind::Port,
     Kind::Unport,
@@ -61,6 +62,7 @@ const KINDS: [Kind; 11] = [
     Kind::Underlay,
     Kind::Rpc,
     Kind::Hangup,
+    Kind::Show,
     Kind::End,
 ];
 
@@ -79,6 +81,7 @@ fn kind_text(kind: Kind) -> &'static [u8]
         Kind::Underlay => b"underlay",
         Kind::Rpc => b"rpc",
         Kind::Hangup => b"hangup",
+        Kind::Show => b"show",
         Kind::End => b"end",
     }
 }
@@ -104,6 +107,7 @@ fn arity(kind: Kind) -> usize
         Kind::Gateway | Kind::Port | Kind::Unport | Kind::Underlay | Kind::Hangup => 2,
         Kind::Switch | Kind::Frame | Kind::Rpc => 3,
         Kind::Bind => 4,
+        Kind::Show => 1,
         Kind::Settle | Kind::End => 0,
     }
 }
@@ -243,11 +247,12 @@ fn instruction(alloc: Global, kind: Kind, words: &[Word<'_>]) -> Result<Instruct
         Kind::Unport => unport(words),
         Kind::Switch => switch(words),
         Kind::Bind => bind(words),
-        Kind::Settle => Ok(Instruction::Do(Line::Settle)),
+        Kind::Settle => Ok(Instruction::Do(Line::Settle(SettleLine))),
         Kind::Frame => frame(alloc, words),
         Kind::Underlay => underlay(alloc, words),
         Kind::Rpc => rpc(alloc, words),
         Kind::Hangup => hangup(words),
+        Kind::Show => show(words),
         Kind::End => Ok(Instruction::End),
     }
 }
@@ -255,25 +260,25 @@ fn instruction(alloc: Global, kind: Kind, words: &[Word<'_>]) -> Result<Instruct
 fn gateway(words: &[Word<'_>]) -> Result<Instruction, LineFault>
     ensures { Reads result (instruction Kind.Gateway (map seen words.now)) }
 {
-    let name = name_at(words, 1)?;
+    let g = name_at(words, 1)?;
     let ip = ipv4_at(words, 2)?;
-    Ok(Instruction::Do(Line::Gateway { name, ip }))
+    Ok(Instruction::Do(Line::Gateway(GatewayLine { g, ip })))
 }
 
 fn port(words: &[Word<'_>]) -> Result<Instruction, LineFault>
     ensures { Reads result (instruction Kind.Port (map seen words.now)) }
 {
-    let gateway = name_at(words, 1)?;
-    let port = name_at(words, 2)?;
-    Ok(Instruction::Do(Line::Port { gateway, port }))
+    let g = name_at(words, 1)?;
+    let p = name_at(words, 2)?;
+    Ok(Instruction::Do(Line::Port(PortLine { g, p })))
 }
 
 fn unport(words: &[Word<'_>]) -> Result<Instruction, LineFault>
     ensures { Reads result (instruction Kind.Unport (map seen words.now)) }
 {
-    let gateway = name_at(words, 1)?;
-    let port = name_at(words, 2)?;
-    Ok(Instruction::Do(Line::Unport { gateway, port }))
+    let g = name_at(words, 1)?;
+    let p = name_at(words, 2)?;
+    Ok(Instruction::Do(Line::Unport(UnportLine { g, p })))
 }
 
 fn switch(words: &[Word<'_>]) -> Result<Instruction, LineFault>
@@ -282,10 +287,7 @@ fn switch(words: &[Word<'_>]) -> Result<Instruction, LineFault>
     let name = name_at(words, 1)?;
     let vni = vni_at(words, 2)?;
     let mode = mode_at(words, 3)?;
-    Ok(Instruction::Do(Line::Switch {
-        name,
-        network: Network { vni, mode },
-    }))
+    Ok(Instruction::Do(Line::Intend(Intent::Switch { name, vni, mode })))
 }
 
 fn bind(words: &[Word<'_>]) -> Result<Instruction, LineFault>
@@ -295,54 +297,53 @@ fn bind(words: &[Word<'_>]) -> Result<Instruction, LineFault>
     let gateway = name_at(words, 2)?;
     let port = name_at(words, 3)?;
     let vlan = vlan_at(words, 4)?;
-    let binding = Binding {
+    Ok(Instruction::Do(Line::Intend(Intent::Bind {
+        switch,
         gateway,
         port,
         vlan,
-    };
-    Ok(Instruction::Do(Line::Bind { switch, binding }))
+    })))
 }
 
 fn frame(alloc: Global, words: &[Word<'_>]) -> Result<Instruction, LineFault>
     ensures { Reads result (instruction Kind.Frame (map seen words.now)) }
 {
-    let gateway = name_at(words, 1)?;
-    let port = name_at(words, 2)?;
-    let bytes = hex_at(alloc, words, 3)?;
-    Ok(Instruction::Do(Line::Frame {
-        gateway,
-        port,
-        bytes,
-    }))
+    let g = name_at(words, 1)?;
+    let p = name_at(words, 2)?;
+    let hex = hex_at(alloc, words, 3)?;
+    Ok(Instruction::Do(Line::Frame(FrameLine { g, p, hex })))
 }
 
 fn underlay(alloc: Global, words: &[Word<'_>]) -> Result<Instruction, LineFault>
     ensures { Reads result (instruction Kind.Underlay (map seen words.now)) }
 {
-    let gateway = name_at(words, 1)?;
-    let bytes = hex_at(alloc, words, 2)?;
-    Ok(Instruction::Do(Line::Underlay { gateway, bytes }))
+    let g = name_at(words, 1)?;
+    let hex = hex_at(alloc, words, 2)?;
+    Ok(Instruction::Do(Line::Underlay(UnderlayLine { g, hex })))
 }
 
 fn rpc(alloc: Global, words: &[Word<'_>]) -> Result<Instruction, LineFault>
     ensures { Reads result (instruction Kind.Rpc (map seen words.now)) }
 {
-    let gateway = name_at(words, 1)?;
+    let g = name_at(words, 1)?;
     let session = session_at(words, 2)?;
-    let bytes = hex_at(alloc, words, 3)?;
-    Ok(Instruction::Do(Line::Rpc {
-        gateway,
-        session,
-        bytes,
-    }))
+    let hex = hex_at(alloc, words, 3)?;
+    Ok(Instruction::Do(Line::Rpc(RpcLine { g, session, hex })))
 }
 
 fn hangup(words: &[Word<'_>]) -> Result<Instruction, LineFault>
     ensures { Reads result (instruction Kind.Hangup (map seen words.now)) }
 {
-    let gateway = name_at(words, 1)?;
+    let g = name_at(words, 1)?;
     let session = session_at(words, 2)?;
-    Ok(Instruction::Do(Line::Hangup { gateway, session }))
+    Ok(Instruction::Do(Line::Hangup(HangupLine { g, session })))
+}
+
+fn show(words: &[Word<'_>]) -> Result<Instruction, LineFault>
+    ensures { Reads result (instruction Kind.Show (map seen words.now)) }
+{
+    let g = name_at(words, 1)?;
+    Ok(Instruction::Do(Line::Show(ShowLine { g })))
 }
 
 /// What the words of a line say, or its first fault.

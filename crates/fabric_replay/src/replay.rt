@@ -3,7 +3,8 @@
 ghost use Rattle.std.specs.Prelude.{◌≡◌, ◌<◌, ◌≤◌, ◌+◌, ◌++◌, ◌^◌, [], List, length, map, Option, Some, None, OnOk, IfNone};
 ghost use Rattle.std.specs.String.{string_bytes};
 ghost use Rattle.vtep_base.specs.Outside.{SourceState, SinkState, Rose};
-ghost use Rattle.fabric_world.specs.Delivery.{DeliversInstalled};
+ghost use Rattle.fabric_world.specs.Delivery.{DeliversBound};
+ghost use Rattle.fabric_world.specs.ReadLines.{ReadLinesAreLines};
 ghost use Rattle.fabric_world.specs.Script.{Stopped, Short, Ended, Full, form_of, usage_line, reason_text, refusal_text, Replays, AnswersForm, Ran, Completes};
 ghost use Rattle.fabric_replay.specs.Stages.{stage_of, IsUnread};
 ghost use Rattle.fabric_replay.specs.Outcomes.{PutsAll, Wrote, Continues, PlaysPiece, status_at, WroteUsage};
@@ -269,7 +270,10 @@ pub fn run<S: Source, K: Sink>(
         (record { left = S.left source.new; taken = S.taken source.new; faults = S.faults source.new; ends = S.ends source.new })
         (record { written = K.written sink.old; faults = K.faults sink.old })
         (record { written = K.written sink.new; faults = K.faults sink.new }) result }
-    ensures delivers { DeliversInstalled }
+    // What the script's definition writes for a frame, where there is one gateway.
+    ensures delivers { DeliversBound }
+    // Each line that is read of a script is one of those that `delivers` speaks of.
+    ensures lines { ReadLinesAreLines }
 {
     match form_of(words.as_slice()) {
         Some(form) => run_lines(alloc, form, source, sink),

@@ -1,30 +1,32 @@
 //! A script, piece by piece.
 
-ghost use Rattle.std.specs.Prelude.{◌≡◌, ℕ, List, ◌+◌, ◌-◌, ◌^◌, ◌≤◌, ◌<◌, ◌++◌, ◌∷◌, [], length, take, drop, map, IfOk, OnOk, MatchOption, IsTrue};
+ghost use Rattle.std.specs.Prelude.{◌≡◌, ℕ, false, List, ◌+◌, ◌-◌, ◌^◌, ◌≤◌, ◌<◌, ◌++◌, ◌∷◌, [], length, take, drop, map, IfOk, OnOk, MatchOption, IsTrue};
 ghost use Rattle.fabric_world.specs.Text.{cut, without_return, NoFeed, is_skipped};
 ghost use Rattle.fabric_world.specs.Script as definition;
-ghost use Rattle.fabric_world.specs.Script.{Waiting, Going, Stopped, Inspecting, first_of, silent, refused, play_one, play, refused_by, is_opening, run_instruction, play_rest, ended, full, closing, read_behind, Ended, Full};
+ghost use Rattle.fabric_world.specs.Script.{Waiting, Going, Inspecting, first_of, silent, refused, ran, play_one, play, is_opening, play_rest, ended, full, closing, read_behind, Ended, Full};
+ghost use Rattle.fabric_world.specs.World.{run};
 ghost use Rattle.fabric_world.specs.Lines.{column_at};
-ghost use Rattle.fabric_replay.specs.Seen.{seen, AllFit};
-ghost use Rattle.fabric_replay.specs.PlainWorld.{world_of};
-ghost use Rattle.fabric_replay.specs.Stages.{stage_of, number_of, after_line, Plays, EndsLine, Feeds};
+ghost use Rattle.vtep_fabric.specs.Fabrics.{Answers};
+ghost use Rattle.fabric_replay.specs.Seen.{seen, AllFit, HasSession};
+ghost use Rattle.fabric_replay.specs.Stages.{stage_of, number_of, after_line, Performs, Plays, EndsLine, Feeds};
 
 use crate::lines::{LineFault, read_line, read_packet};
-use crate::plain::{Plain, write_packet};
+use crate::packets::write_packet;
 use crate::reader::Reader;
 use crate::words::{Word, bad_byte, is_skipped, words};
-use fabric_world::{Fault, Form, Instruction, Refusal};
+use fabric_world::{Form, Instruction, Line, Refusal};
 use memchr::memchr;
 use std::alloc::Global;
 use vtep_base::{Bytes, LineReason, OutOfMemory};
+use vtep_fabric::{Fabric, FabricFault};
 
 /// Where a script stands.
 #[derive(Drop)]
 pub(crate) enum Stage {
     /// No line had words. The number is that of the next line.
     Waiting(u64),
-    /// The number of the next line, and the world in which it is run.
-    Going(u64, Plain),
+    /// The number of the next line, and the fabric in which it is run.
+    Going(u64, Fabric),
     /// The end line was run.
     Over,
     /// The line of this number was refused.
@@ -73,23 +75,6 @@ fn column_at(words: &[Word<'_>], place: usize) -> usize
     }
 }
 
-/// A reason of the fabric, at its word.
-fn refusal_by(words: &[Word<'_>], fault: Fault) -> Refusal
-    ensures { (n : ℕ) → refused_by n (map seen words.now) fault
-        ≡ record { text = []; stage = Stopped n result } }
-{
-    let (place, reason) = match fault {
-        Fault::Unknown(place) => (place, LineReason::Unknown),
-        Fault::Repeated(place) => (place, LineReason::Repeated),
-        Fault::Limit => (0, LineReason::Limit),
-        Fault::Use => (0, LineReason::Use),
-    };
-    Refusal {
-        column: column_at(words, place),
-        reason,
-    }
-}
-
 /// A line of this number is refused at a column.
 fn refused(number: u64, column: usize, reason: LineReason) -> Stage
     ensures stage { refused number column reason ≡ silent (stage_of result) }
@@ -113,39 +98,59 @@ fn open(alloc: Global, number: u64, line: &[u8]) -> Result<Stage, OutOfMemory>
         return Ok(refused(number, column, LineReason::Byte));
     }
     if is_opening(words.as_slice()) {
-        return Ok(Stage::Going(number + 1, Plain::new(alloc)));
+        return Ok(Stage::Going(number + 1, Fabric::new(alloc)));
     }
     Ok(refused(number, 1, LineReason::First))
 }
 
-/// Runs what a line says, and says how that ends the script, where it does.
+/// What the fabric answers to a line.
+fn call(fabric: &mut Fabric, line: &Line, out: &mut Bytes) -> Result<(), FabricFault>
+    requires going { fabric.old.stopped ≡ false }
+    requires session { HasSession line.now }
+    ensures { Answers fabric.old line.now fabric.new out.old out.new result }
+{
+    match line {
+        Line::Gateway(line) => fabric.gateway(line, out),
+        Line::Port(line) => fabric.port(line, out),
+        Line::Unport(line) => fabric.unport(line, out),
+        Line::Intend(line) => fabric.intend(line, out),
+        Line::Frame(line) => fabric.frame(line, out),
+        Line::Underlay(line) => fabric.underlay(line, out),
+        Line::Rpc(line) => fabric.rpc(line, out),
+        Line::Hangup(line) => fabric.hangup(line, out),
+        Line::Settle(line) => fabric.settle(line, out),
+        Line::Show(line) => fabric.show(line, out),
+    }
+}
+
+/// Runs a line in the fabric, and says how it ends the script, where it does.
 fn perform(
-    alloc: Global,
     number: &mut u64,
-    world: &mut Plain,
+    fabric: &mut Fabric,
     words: &[Word<'_>],
-    instruction: Instruction,
+    line: &Line,
     out: &mut Bytes,
 ) -> Result<Option<Halt>, OutOfMemory>
     requires room { number.old < 2 ^ 62 }
-    ensures text { OnOk result (out.new ≡ out.old
-        ++ (run_instruction number.old (world_of world.old) (map seen words.now)
-        (Ok instruction)).text) }
-    ensures stage { IfOk result (λ halt. after_line halt number.new
-        (Going number.new (world_of world.new))
-        ≡ (run_instruction number.old (world_of world.old) (map seen words.now)
-        (Ok instruction)).stage) }
+    requires session { HasSession line.now }
+    ensures performs { IfOk result (λ halt. Performs
+        (ran number.old (map seen words.now) (run fabric.old.world line.now)) out.old
+        (after_line halt number.new (Going number.new fabric.new.world)) out.new) }
     ensures number { OnOk result (number.new ≤ number.old + 1) }
 {
-    match instruction {
-        Instruction::End => Ok(Some(Halt::Over)),
-        Instruction::Do(line) => match world.run(alloc, line, out)? {
-            None => {
-                *number += 1;
-                Ok(None)
-            }
-            Some(fault) => Ok(Some(Halt::Refused(refusal_by(words, fault)))),
-        },
+    if fabric.stopped() {
+        return Err(OutOfMemory);
+    }
+    match call(fabric, line, out) {
+        Ok(()) => {
+            *number += 1;
+            Ok(None)
+        }
+        Err(FabricFault::OutOfMemory) => Err(OutOfMemory),
+        Err(FabricFault::Refused { word, reason }) => {
+            let column = column_at(words, word);
+            Ok(Some(Halt::Refused(Refusal { column, reason })))
+        }
     }
 }
 
@@ -153,13 +158,13 @@ fn perform(
 fn go(
     alloc: Global,
     number: &mut u64,
-    world: &mut Plain,
+    fabric: &mut Fabric,
     line: &[u8],
     out: &mut Bytes,
 ) -> Result<Option<Halt>, OutOfMemory>
     requires room { number.old < 2 ^ 62 }
-    ensures plays { IfOk result (λ halt. Plays (Going number.old (world_of world.old)) line.now
-        out.old (after_line halt number.new (Going number.new (world_of world.new))) out.new) }
+    ensures plays { IfOk result (λ halt. Plays (Going number.old fabric.old.world) line.now
+        out.old (after_line halt number.new (Going number.new fabric.new.world)) out.new) }
     ensures number { OnOk result (number.new ≤ number.old + 1) }
 {
     let words = words(alloc, line)?;
@@ -168,7 +173,8 @@ fn go(
         return Ok(None);
     }
     match read_line(alloc, line, words.as_slice()) {
-        Ok(instruction) => perform(alloc, number, world, words.as_slice(), instruction, out),
+        Ok(Instruction::Do(said)) => perform(number, fabric, words.as_slice(), &said, out),
+        Ok(Instruction::End) => Ok(Some(Halt::Over)),
         Err(LineFault::OutOfMemory) => Err(OutOfMemory),
         Err(LineFault::Refused(refusal)) => Ok(Some(Halt::Refused(refusal))),
     }
@@ -226,8 +232,8 @@ impl Stage {
                 let next = open(alloc, *number, line)?;
                 *self = next;
             }
-            Stage::Going(number, world) => {
-                if let Some(halt) = go(alloc, number, world, line, out)? {
+            Stage::Going(number, fabric) => {
+                if let Some(halt) = go(alloc, number, fabric, line, out)? {
                     *self = halt.stage(*number);
                 }
             }

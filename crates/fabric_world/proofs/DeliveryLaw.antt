@@ -1,432 +1,369 @@
--- Frames are delivered, in every state that accepted lines lead to.
-use Rattle.std.proofs.Common.{◌≡◌, inl, inr, ◌↔◌, ℕ, ◌≤◌, Bool, true, false, cond, T, List, [], ◌∷◌, ◌++◌, map, filter, length, Option, Some, None, Result, Ok, refl, sym, ap, subst, ◌∙◌, arith}
-use Rattle.std.specs.Prelude.{◌&&◌, not, find, nat_le, ◌==◌, nat_eq}
-use Rattle.std.specs.List.{list_any, flat_map}
-use Rattle.std.specs.Ordering.{is_lt, is_eq, ordering_then}
-use Rattle.std.specs.Cmp.{IsTotalOrder, nat_cmp_total}
+-- Frames that enter at a binding are delivered, where there is one gateway and no row of Ucast_Macs_Remote.
+use Rattle.std.proofs.Common.{◌≡◌, inl, inr, ℕ, ◌<◌, ◌^◌, Bool, true, false, not, cond, ◌&&◌, ◌||◌, List, [], ◌∷◌, ◌++◌, map, is_some, Option, Some, None, Result, Ok, refl, sym, ap, subst, ◌∙◌, arith}
+use Rattle.std.specs.Prelude.{◌==◌, find}
+use Rattle.std.specs.List.{filter, filter_map, flat_map, list_any}
+use Rattle.std.specs.Cmp.{eq_by_cmp_equiv}
 use Rattle.std.specs.Cmp.Lexicographic.{nat_list_cmp_total}
-use Rattle.std.specs.declared.cmp.Ordering.{Ordering}
-use Rattle.std.specs.declared.cmp.Ordering.TheVariants.{Less, Equal, Greater}
-use Rattle.std.specs.FinMap.{IsAntisymmetric, is_sorted, put, find as find_in}
-use Rattle.std.specs.FinMap.Entries.{below_all}
-use Rattle.std.proofs.lemmas.Cmp.{then_total, on_total, tied_itself}
-use Rattle.std.proofs.lemmas.Map.Lookups.{exact_bytes, exact_unsigned}
+use Rattle.std.proofs.lemmas.Map.Lookups.{exact_bytes}
 use Rattle.std.proofs.lemmas.Bool.Decides.{nat_tests}
+use Rattle.vtep_base.specs.Chains.{◌>>=◌, or_refuse}
 use Rattle.vtep_base.specs.Reading.{Bytes}
+use Rattle.vtep_base.specs.Addresses.{is_group}
 use Rattle.vtep_base.specs.Maps as maps
-use Rattle.vtep_base.specs.Maps.{Map}
+use Rattle.vtep_base.specs.declared.answers.LineReason.TheVariants.{Unknown}
 use Rattle.vtep_base.specs.declared.bindings.Binding.{Binding}
 use Rattle.ether_frames.specs.Frames.{Carries, frame_of, tagged}
 use Rattle.ether_frames.specs.declared.FrameFault.{FrameFault}
 use Rattle.ether_frames.proofs.Carried.{read_back}
-use Rattle.vtep_base.specs.Reading.{same_bytes}
-use Rattle.vtep_gateway.specs.Gateway as vtep
+use Rattle.vxlan_frames.specs.Packets.{canon}
+use Rattle.ovsdb_values.specs.Atoms.{atom_total}
+use Rattle.ovsdb_values.specs.declared.atoms.Atom.TheVariants.{Text}
+use Rattle.vtep_schema.specs.declared.Table.TheVariants.{PhysicalPort, UcastMacsRemote}
+use Rattle.vtep_schema.specs.declared.Column.TheVariants.{PortName}
+use Rattle.vtep_rows.specs.Row.{atoms_at}
+use Rattle.vtep_rows.specs.Rows.{Rows, rows_of}
+use Rattle.vtep_rows.specs.Keyed.{holds_only}
+use Rattle.vtep_rows.proofs.Kept.{its_contents}
+use Rattle.forward_program.specs.declared.hops.Origin.TheVariants as origin
+use Rattle.forward_program.specs.declared.hops.Outcome.TheVariants.{Done}
+use Rattle.forward_program.specs.declared.sent.Out.{Out}
+use Rattle.forward_program.specs.Readings.{own_ip}
+use Rattle.forward_program.specs.Built as built
+use Rattle.forward_program.specs.Built.{IsIn, bindings}
+use Rattle.forward_program.specs.Joins.{Port}
+use Rattle.forward_program.specs.Hop.{Ways, Way, nowhere, same_port, but, tunnelled, group_targets, flooded, ports_to, addresses_to, from_port, in_order, port_by, flood_by, ways_of}
+use Rattle.forward_program.specs.Hop as hop
+use Rattle.forward_program.specs.Sent.{out_of, packets_of}
+use Rattle.forward_program.proofs.HopLaws.{number_itself}
+use Rattle.forward_program.proofs.InLists.{in_front, in_either, in_map, map_in}
+use Rattle.forward_program.proofs.MapLists.{in_get, put_again}
+use Rattle.forward_program.proofs.Columns.{text_alone}
+use Rattle.forward_program.proofs.RowsIn.{rows_in}
+use Rattle.forward_program.proofs.Unique.{binding_of, port_text, bytes_itself}
+use Rattle.vtep_gateway.specs.declared.EventRefused.TheVariants.{NoPort}
 use Rattle.vtep_gateway.specs.declared.Event.{Event}
 use Rattle.vtep_gateway.specs.declared.Event.TheVariants as event
-use Rattle.fabric_world.specs.declared.Line.{Line}
-use Rattle.fabric_world.specs.declared.Line.TheVariants.{Gateway, Port, Unport, Switch, Bind, Settle, Frame, Underlay, Rpc, Hangup}
+use Rattle.vtep_gateway.specs.Gateway.{Gateway, Answer, Step, nothing, refused}
+use Rattle.vtep_gateway.specs.Moves as moves
+use Rattle.vtep_gateway.specs.Ports.{is_named, port_named}
+use Rattle.vtep_gateway.specs.Frames.{way, why_nowhere, sent_along, sent_unless, frame_answer}
+use Rattle.vtep_gateway.specs.Settled.{IsSettled}
 use Rattle.fabric_world.specs.declared.Fault.{Fault}
-use Rattle.fabric_world.specs.World.{World, Site, Intent, start, first_of, has_ip, fault, step, Out, bytes_cmp, binding_cmp, at_site, at_gateway, with_port, without_port, is_elsewhere, moved, wanted, installed_each, is_at_place, is_other_member, leaves, to_itself, flooded, entered, frame_outputs}
-use Rattle.fabric_world.specs.Logical.{IsIn, EachOnce, Logical, Delivers, member, members, destination, source}
-use Rattle.fabric_world.specs.Delivery.{Accepts, after, out_at, IsBelow, InOrder, IsDelivered, DeliversInstalled}
-
--- ---- tests
-
-both : (a b : Bool) → a && b ≡ true → (a ≡ true) × (b ≡ true)
-both true true e = (refl, refl)
-both true false e = absurd (cc)
-both false b e = absurd (cc)
-
-pub same_is : (a b : Bytes) → same_bytes a b ≡ true → a ≡ b
-same_is [] [] e = refl
-same_is [] (y ∷ ys) e = absurd (cc)
-same_is (x ∷ xs) [] e = absurd (cc)
-same_is (x ∷ xs) (y ∷ ys) e =
-    let p = both (nat_eq x y) (same_bytes xs ys) e in
-    let head : x ≡ y = grind (arith, nat_tests, p.0) in
-    ap (λ z. z ∷ xs) head ∙ ap (λ z. y ∷ z) (same_is xs ys p.1)
-
-pub same_self : (a : Bytes) → same_bytes a a ≡ true
-same_self [] = refl
-same_self (x ∷ xs) =
-    let head : nat_eq x x ≡ true = grind (arith, nat_tests) in
-    rw (head, same_self xs) refl
-
--- ---- the order of bindings
-
-pub binding_total : IsTotalOrder binding_cmp
-binding_total = then_total (on_total (λ b. b.gateway) nat_list_cmp_total) (then_total (on_total (λ b. b.port) nat_list_cmp_total) (on_total (λ b. b.vlan) nat_cmp_total))
-
-first_equal : (a b : Ordering) → ordering_then a b ≡ Equal → (a ≡ Equal) × (b ≡ Equal)
-first_equal Less b e = absurd (cc)
-first_equal Equal b e = (refl, e)
-first_equal Greater b e = absurd (cc)
-
-pub binding_exact : IsAntisymmetric binding_cmp
-binding_exact a b e =
-    let p = first_equal (bytes_cmp a.gateway b.gateway) _ e in
-    let q = first_equal (bytes_cmp a.port b.port) _ p.1 in
-    ap (λ g. let r : Binding = record { gateway = g; port = a.port; vlan = a.vlan } in r) (exact_bytes a.gateway b.gateway p.0)
-    ∙ ap (λ p. let r : Binding = record { gateway = b.gateway; port = p; vlan = a.vlan } in r) (exact_bytes a.port b.port q.0)
-    ∙ ap (λ v. let r : Binding = record { gateway = b.gateway; port = b.port; vlan = v } in r) (exact_unsigned a.vlan b.vlan q.1)
-
-not_below_itself : (b : Binding) → binding_cmp b b ≡ Less → ⊥
-not_below_itself b e = let t : Less ≡ Equal = sym e ∙ tied_itself binding_total b in cc
-
-is_less : (o : Ordering) → T (is_lt o) → o ≡ Less
-is_less Less t = refl
-is_less Equal t = absurd t
-is_less Greater t = absurd t
-
-split : (a b : Bool) → T (a && b) → T a × T b
-split true true t = (tt, tt)
-split true false t = absurd t
-split false b t = absurd t
-
-below_by_test : (b : Binding) (es : List (Binding × Bytes)) → T (below_all binding_cmp b es) → IsBelow b es
-below_by_test b [] t = tt
-below_by_test b (e ∷ es) t = let p = split (is_lt (binding_cmp b e.0)) _ t in (is_less (binding_cmp b e.0) p.0, below_by_test b es p.1)
-
-in_order_by_test : (es : List (Binding × Bytes)) → T (is_sorted binding_cmp es) → InOrder es
-in_order_by_test [] t = tt
-in_order_by_test (e ∷ es) t = let p = split (below_all binding_cmp e.0 es) _ t in (below_by_test e.0 es p.0, in_order_by_test es p.1)
-
-below-filter : (q : Binding × Bytes → Bool) (b : Binding) (es : List (Binding × Bytes)) → IsBelow b es → IsBelow b (filter q es)
-below-filter q b [] h = tt
-below-filter q b (e ∷ es) h = elim (q e) as (λ t. IsBelow b (cond t (e ∷ filter q es) (filter q es))) [ true ↦ (h.0, below-filter q b es h.1) | false ↦ below-filter q b es h.1 ]
-
-in_order-filter : (q : Binding × Bytes → Bool) (es : List (Binding × Bytes)) → InOrder es → InOrder (filter q es)
-in_order-filter q [] h = tt
-in_order-filter q (e ∷ es) h =
-    elim (q e) as (λ t. InOrder (cond t (e ∷ filter q es) (filter q es))) [ true ↦ (below-filter q e.0 es h.0, in_order-filter q es h.1) | false ↦ in_order-filter q es h.1 ]
-
-not_among_below : (b : Binding) (x : Bytes) (es : List (Binding × Bytes)) → IsBelow b es → IsIn (b, x) es → ⊥
-not_among_below b x [] h i = elim i [ ]
-not_among_below b x (e ∷ es) h (inl is) = not_below_itself b (ap (λ y. binding_cmp b y.0) is ∙ h.0)
-not_among_below b x (e ∷ es) h (inr i) = not_among_below b x es h.1 i
-
-pub once_in_order : (es : List (Binding × Bytes)) → InOrder es → EachOnce es
-once_in_order [] h = tt
-once_in_order (e ∷ es) h = (not_among_below e.0 e.1 es h.0, once_in_order es h.1)
-
--- a binding has one switch
-one_switch : (b : Binding) (x y : Bytes) (es : List (Binding × Bytes)) → InOrder es → IsIn (b, x) es → IsIn (b, y) es → x ≡ y
-one_switch b x y [] h i j = elim i [ ]
-one_switch b x y (e ∷ es) h (inl i) (inl j) = ap (λ z. z.1) (i ∙ sym j)
-one_switch b x y (e ∷ es) h (inl i) (inr j) = absurd (not_among_below b y es (subst (λ z. IsBelow z es) (ap (λ z. z.0) (sym i)) h.0) j)
-one_switch b x y (e ∷ es) h (inr i) (inl j) = absurd (not_among_below b x es (subst (λ z. IsBelow z es) (ap (λ z. z.0) (sym j)) h.0) i)
-one_switch b x y (e ∷ es) h (inr i) (inr j) = one_switch b x y es h.1 i j
-
--- ---- what holds of every state that accepted lines lead to: one gateway at most, whose installed bindings are its own, in order
-
-abbrev AllHere : Bytes → List (Binding × Bytes) → Type 0
-AllHere g [] = Unit {0}
-AllHere g (e ∷ es) = (e.0.gateway ≡ g) × AllHere g es
-
-record IsGoodSite (g : Bytes) (site : Site) : Type 0 where
-  in_order : InOrder site.installed
-  here : AllHere g site.installed
-
-abbrev IsGood : List (Bytes × Site) → Type 0
-IsGood [] = Unit {0}
-IsGood (e ∷ []) = IsGoodSite e.0 e.1
-IsGood (e ∷ f ∷ es) = ⊥
-
-here-any_filter : (q : Binding × Bytes → Bool) (g : Bytes) (es : List (Binding × Bytes)) → AllHere g es → AllHere g (filter q es)
-here-any_filter q g [] h = tt
-here-any_filter q g (e ∷ es) h = elim (q e) as (λ t. AllHere g (cond t (e ∷ filter q es) (filter q es))) [ true ↦ (h.0, here-any_filter q g es h.1) | false ↦ here-any_filter q g es h.1 ]
-
-abbrev is_wanted : Bytes → List Bytes → Binding × Bytes → Bool
-is_wanted g ports e = same_bytes g e.0.gateway && list_any (λ q. same_bytes q e.0.port) ports
-
-here_by : (g : Bytes) (e : Binding × Bytes) (es : List (Binding × Bytes)) (t r : Bool) → same_bytes g e.0.gateway && r ≡ t → AllHere g es → AllHere g (cond t (e ∷ es) es)
-here_by g e es true r is h = (sym (same_is g e.0.gateway (both (same_bytes g e.0.gateway) r is).0), h)
-here_by g e es false r is h = h
-
-here-filter : (g : Bytes) (ports : List Bytes) (es : List (Binding × Bytes)) → AllHere g (filter (is_wanted g ports) es)
-here-filter g ports [] = tt
-here-filter g ports (e ∷ es) = here_by g e (filter (is_wanted g ports) es) (is_wanted g ports e) (list_any (λ q. same_bytes q e.0.port) ports) refl (here-filter g ports es)
-
-good_wanted : (intent : Intent) (g : Bytes) (site : Site) → IsGoodSite g (record site { installed = wanted intent g site })
-good_wanted intent g site = record {
-  in_order = in_order-filter (is_wanted g site.ports) intent.bindings.list (in_order_by_test intent.bindings.list intent.bindings.sorted);
-  here = here-filter g site.ports intent.bindings.list;
-}
-
-last_test : (a b c : Bool) (x y z : Fault) → first_of ((a, x) ∷ (b, y) ∷ (c, z) ∷ []) ≡ None → c ≡ false
-last_test true b c x y z e = absurd (cc)
-last_test false true c x y z e = absurd (cc)
-last_test false false true x y z e = absurd (cc)
-last_test false false false x y z e = refl
-
-no_entries : (es : List (Bytes × Site)) → nat_le 1 (length es) ≡ false → es ≡ []
-no_entries [] e = refl
-no_entries (x ∷ es) e = absurd (let t : 1 ≤ length (x ∷ es) = omega arith in grind (arith, nat_tests))
-
-none_yet : (w : World) (g : Bytes) (ip : ℕ) → w.limits.gateways ≡ 1 → fault w (Gateway g ip) ≡ None → w.sites ≡ maps.empty
-none_yet w g ip one e =
-    let t : nat_le w.limits.gateways (length w.sites.list) ≡ false = last_test (maps.has w.sites g) (list_any (has_ip ip) w.sites.list) _ _ _ _ e in
-    maps.same_list w.sites maps.empty (no_entries w.sites.list (rw one at t))
-
--- what is found at a gateway
-found_by : (r : Ordering) (e site : Site) → cond (is_eq r) (Some e) None ≡ Some site → (r ≡ Equal) × (e ≡ site)
-found_by Less e site h = absurd (cc)
-found_by Equal e site h = (refl, (let t : ◌≡◌ {A = Option Site} (Some e) (Some site) = h in cc))
-found_by Greater e site h = absurd (cc)
-
-abbrev maps_find : Bytes → List (Bytes × Site) → Option Site
-maps_find g es = find_in bytes_cmp g es
-
-good_put : (es : List (Bytes × Site)) (g : Bytes) (site changed : Site) → IsGood es → maps_find g es ≡ Some site → ((k : Bytes) → IsGoodSite k site → IsGoodSite k changed) → IsGood (put bytes_cmp g changed es)
-good_put [] g site changed h f stays = absurd (cc)
-good_put (e ∷ []) g site changed h f stays =
-    let p = found_by (bytes_cmp g e.0) e.1 site f in
-    rw p.0 (stays e.0 (subst (IsGoodSite e.0) p.1 h))
-good_put (e ∷ f ∷ es) g site changed h i stays = absurd h
-
-good_at_site : (w : World) (g : Bytes) (change : Site → Site) → ((k : Bytes) (s : Site) → IsGoodSite k s → IsGoodSite k (change s)) → IsGood w.sites.list → (o : Option Site) → maps_find g w.sites.list ≡ o
-    → IsGood (at_site change w g o).sites.list
-good_at_site w g change stays h None f = h
-good_at_site w g change stays h (Some site) f = rw (maps.list-insert nat_list_cmp_total w.sites g (change site)) (good_put w.sites.list g site (change site) h f (λ k good. stays k site good))
-
-good_with_port : (p k : Bytes) (site : Site) → IsGoodSite k site → IsGoodSite k (with_port p site)
-good_with_port p k site h = record { in_order = h.in_order; here = h.here }
-
-good_without_port : (p k : Bytes) (site : Site) → IsGoodSite k site → IsGoodSite k (without_port p site)
-good_without_port p k site h = record { in_order = in_order-filter (is_elsewhere p) site.installed h.in_order; here = here-any_filter (is_elsewhere p) k site.installed h.here }
-
-good_settled : (intent : Intent) (es : List (Bytes × Site)) → IsGood es → IsGood (installed_each intent es).list
-good_settled intent [] h = tt
-good_settled intent (e ∷ []) h = good_wanted intent e.0 e.1
-good_settled intent (e ∷ f ∷ es) h = absurd h
-
--- an event of a session changes no site
-moved_sites : (w : World) (g : Bytes) (e : Event) (o : Option vtep.Gateway) → (moved w g e o).sites ≡ w.sites
-moved_sites w g e None = refl
-moved_sites w g e (Some gateway) = refl
-
-moved_limits : (w : World) (g : Bytes) (e : Event) (o : Option vtep.Gateway) → (moved w g e o).limits ≡ w.limits
-moved_limits w g e None = refl
-moved_limits w g e (Some gateway) = refl
-
-good_step : (w : World) (line : Line) → w.limits.gateways ≡ 1 → IsGood w.sites.list → fault w line ≡ None → IsGood (step w line).sites.list
-good_step w (Gateway g ip) one h e = rw (none_yet w g ip one e) (record { in_order = tt; here = tt })
-good_step w (Port g p) one h e =
-    rw (moved_sites (at_gateway w g (with_port p)) g (event.Port p) (maps.get w.gateways g)) (good_at_site w g (with_port p) (good_with_port p) h (maps.get w.sites g) refl)
-good_step w (Unport g p) one h e =
-    rw (moved_sites (at_gateway w g (without_port p)) g (event.Unport p) (maps.get w.gateways g)) (good_at_site w g (without_port p) (good_without_port p) h (maps.get w.sites g) refl)
-good_step w (Switch s n) one h e = h
-good_step w (Bind s b) one h e = h
-good_step w Settle one h e = good_settled w.intent w.sites.list h
-good_step w (Frame g p bytes) one h e = h
-good_step w (Underlay g bytes) one h e = h
-good_step w (Rpc g s piece) one h e = rw (moved_sites w g (event.Bytes s piece) (maps.get w.gateways g)) h
-good_step w (Hangup g s) one h e = rw (moved_sites w g (event.Hangup s) (maps.get w.gateways g)) h
-
-at_site_limits : (change : Site → Site) (w : World) (g : Bytes) (o : Option Site) → (at_site change w g o).limits ≡ w.limits
-at_site_limits change w g None = refl
-at_site_limits change w g (Some site) = refl
-
-step_limits : (w : World) (line : Line) → (step w line).limits ≡ w.limits
-step_limits w (Gateway g ip) = refl
-step_limits w (Port g p) = moved_limits (at_gateway w g (with_port p)) g (event.Port p) (maps.get w.gateways g) ∙ at_site_limits (with_port p) w g (maps.get w.sites g)
-step_limits w (Unport g p) = moved_limits (at_gateway w g (without_port p)) g (event.Unport p) (maps.get w.gateways g) ∙ at_site_limits (without_port p) w g (maps.get w.sites g)
-step_limits w (Switch s n) = refl
-step_limits w (Bind s b) = refl
-step_limits w Settle = refl
-step_limits w (Frame g p bytes) = refl
-step_limits w (Underlay g bytes) = refl
-step_limits w (Rpc g s piece) = moved_limits w g (event.Bytes s piece) (maps.get w.gateways g)
-step_limits w (Hangup g s) = moved_limits w g (event.Hangup s) (maps.get w.gateways g)
-
-good_after : (lines : List Line) (w : World) → w.limits.gateways ≡ 1 → IsGood w.sites.list → Accepts w lines → IsGood (after w lines).sites.list
-good_after [] w one h a = h
-good_after (line ∷ lines) w one h a = good_after lines (step w line) (ap (λ l. l.gateways) (step_limits w line) ∙ one) (good_step w line one h a.0) a.1
-
--- ---- the frame
-
-same_number : (a b : ℕ) → (a == b) ≡ true → a ≡ b
-same_number a b e = grind (arith, nat_tests)
-
-number_self : (a : ℕ) → (a == a) ≡ true
-number_self a = grind (arith, nat_tests)
-
-at_its_place : (b : Binding) (x : Bytes) → is_at_place b.port b.vlan (b, x) ≡ true
-at_its_place b x = rw (same_self b.port, number_self b.vlan) refl
-
--- an entry at the place of a binding of its gateway is that binding's
-is_binding : (b : Binding) (e : Binding × Bytes) → e.0.gateway ≡ b.gateway → is_at_place b.port b.vlan e ≡ true → e.0 ≡ b
-is_binding b e here t =
-    let p = both (same_bytes e.0.port b.port) (e.0.vlan == b.vlan) t in
-    ap (λ g. let r : Binding = record { gateway = g; port = e.0.port; vlan = e.0.vlan } in r) here
-    ∙ ap (λ q. let r : Binding = record { gateway = b.gateway; port = q; vlan = e.0.vlan } in r) (same_is e.0.port b.port p.0)
-    ∙ ap (λ v. let r : Binding = record { gateway = b.gateway; port = b.port; vlan = v } in r) (same_number e.0.vlan b.vlan p.1)
-
--- the switch of an installed place is found
-found_here : (b : Binding) (s : Bytes) (e : Binding × Bytes) (es : List (Binding × Bytes)) (t : Bool) → is_at_place b.port b.vlan e ≡ t
-    → e.0.gateway ≡ b.gateway → InOrder (e ∷ es) → IsIn (b, s) (e ∷ es) → (IsIn (b, s) es → find (is_at_place b.port b.vlan) es ≡ Some (b, s))
-    → cond t (Some e) (find (is_at_place b.port b.vlan) es) ≡ Some (b, s)
-found_here b s e es true is here order i next =
-    let at : e.0 ≡ b = is_binding b e here is in
-    let pair : ◌≡◌ {A = Binding × Bytes} (b, e.1) e = ap (λ x. let r : Binding × Bytes = (x, e.1) in r) (sym at) in
-    let switch : e.1 ≡ s = one_switch b e.1 s (e ∷ es) order (inl pair) i in
-    let whole : ◌≡◌ {A = Binding × Bytes} e (b, s) = sym pair ∙ ap (λ x. let r : Binding × Bytes = (b, x) in r) switch in
-    ap (λ x. let r : Option (Binding × Bytes) = Some x in r) whole
-found_here b s e es false is here order (inl same) next = absurd (let t : is_at_place b.port b.vlan e ≡ true = ap (is_at_place b.port b.vlan) (sym same) ∙ at_its_place b s in let u : false ≡ true = sym is ∙ t in cc)
-found_here b s e es false is here order (inr i) next = next i
-
-found_at : (b : Binding) (s : Bytes) (es : List (Binding × Bytes)) → AllHere b.gateway es → InOrder es → IsIn (b, s) es → find (is_at_place b.port b.vlan) es ≡ Some (b, s)
-found_at b s [] here order i = elim i [ ]
-found_at b s (e ∷ es) here order i = found_here b s e es (is_at_place b.port b.vlan e) refl here.0 order i (λ j. found_at b s es here.1 order.1 j)
-
--- ---- members of lists that are mapped and filtered
-
-abbrev as_bytes : Bytes → Binding × Bytes → Binding × Bytes
-as_bytes inner e = (e.0, tagged e.0.vlan inner)
-
-below-mapped : (inner : Bytes) (b : Binding) (es : List (Binding × Bytes)) → IsBelow b es → IsBelow b (map (as_bytes inner) es)
-below-mapped inner b [] h = tt
-below-mapped inner b (e ∷ es) h = (h.0, below-mapped inner b es h.1)
-
-in_order-mapped : (inner : Bytes) (es : List (Binding × Bytes)) → InOrder es → InOrder (map (as_bytes inner) es)
-in_order-mapped inner [] h = tt
-in_order-mapped inner (e ∷ es) h = (below-mapped inner e.0 es h.0, in_order-mapped inner es h.1)
-
-written-mapped : (inner g : Bytes) (es : List (Binding × Bytes)) → AllHere g es → map (leaves g inner) es ≡ map out_at (map (as_bytes inner) es)
-written-mapped inner g [] h = refl
-written-mapped inner g (e ∷ es) h = ap (λ x. Out x e.0.port (tagged e.0.vlan inner) ∷ map (leaves g inner) es) (sym h.0) ∙ ap (λ r. out_at (as_bytes inner e) ∷ r) (written-mapped inner g es h.1)
-
-in_mapped : (inner : Bytes) (c : Binding) (out : Bytes) (es : List (Binding × Bytes)) → IsIn (c, out) (map (as_bytes inner) es) → (x : Bytes) × IsIn (c, x) es × (out ≡ tagged c.vlan inner)
-in_mapped inner c out [] i = elim i [ ]
-in_mapped inner c out (e ∷ es) (inl is) =
-    let at : c ≡ e.0 = ap (λ z. z.0) is in
-    (e.1, inl (ap (λ x. let r : Binding × Bytes = (x, e.1) in r) at), ap (λ z. z.1) is ∙ ap (λ x. tagged x.vlan inner) (sym at))
-in_mapped inner c out (e ∷ es) (inr i) = let r = in_mapped inner c out es i in (r.0, inr r.1, r.2)
-
-mapped_in : (inner : Bytes) (c : Binding) (x : Bytes) (es : List (Binding × Bytes)) → IsIn (c, x) es → IsIn (c, tagged c.vlan inner) (map (as_bytes inner) es)
-mapped_in inner c x [] i = elim i [ ]
-mapped_in inner c x (e ∷ es) (inl is) = inl (ap (as_bytes inner) is)
-mapped_in inner c x (e ∷ es) (inr i) = inr (mapped_in inner c x es i)
-
-in_kept : (q : Binding × Bytes → Bool) (z e : Binding × Bytes) (fs es : List (Binding × Bytes)) (t : Bool) → q e ≡ t → IsIn z (cond t (e ∷ fs) fs) → (IsIn z fs → (q z ≡ true) × IsIn z es) → (q z ≡ true) × (IsIn z (e ∷ es))
-in_kept q z e fs es true is (inl same) next = (ap q same ∙ is, inl same)
-in_kept q z e fs es true is (inr i) next = let r = next i in (r.0, inr r.1)
-in_kept q z e fs es false is i next = let r = next i in (r.0, inr r.1)
-
-in_filter : (q : Binding × Bytes → Bool) (z : Binding × Bytes) (es : List (Binding × Bytes)) → IsIn z (filter q es) → (q z ≡ true) × IsIn z es
-in_filter q z [] i = elim i [ ]
-in_filter q z (e ∷ es) i = in_kept q z e (filter q es) es (q e) refl i (λ j. in_filter q z es j)
-
-filter_in : (q : Binding × Bytes → Bool) (z : Binding × Bytes) (es : List (Binding × Bytes)) → q z ≡ true → IsIn z es → IsIn z (filter q es)
-filter_in q z [] t i = elim i [ ]
-filter_in q z (e ∷ es) t (inl same) = let passes : q e ≡ true = ap q (sym same) ∙ t in rw passes (inl same)
-filter_in q z (e ∷ es) t (inr i) = elim (q e) as (λ r. IsIn z (cond r (e ∷ filter q es) (filter q es))) [ true ↦ inr (filter_in q z es t i) | false ↦ filter_in q z es t i ]
-
-member_in : (s : Bytes) (b : Binding) (es : List (Binding × Bytes)) → IsIn (s, b) (map member es ++ []) → IsIn (b, s) es
-member_in s b [] i = elim i [ ]
-member_in s b (e ∷ es) (inl same) = inl (ap (λ z. let r : Binding × Bytes = (z.1, z.0) in r) same)
-member_in s b (e ∷ es) (inr i) = inr (member_in s b es i)
-
-in_member : (s : Bytes) (b : Binding) (es : List (Binding × Bytes)) → IsIn (b, s) es → IsIn (s, b) (map member es ++ [])
-in_member s b [] i = elim i [ ]
-in_member s b (e ∷ es) (inl same) = inl (ap (λ z. let r : Bytes × Binding = (z.1, z.0) in r) same)
-in_member s b (e ∷ es) (inr i) = inr (in_member s b es i)
-
-all_here : (g : Bytes) (c : Binding) (x : Bytes) (es : List (Binding × Bytes)) → AllHere g es → IsIn (c, x) es → c.gateway ≡ g
-all_here g c x [] h i = elim i [ ]
-all_here g c x (e ∷ es) h (inl same) = ap (λ z. z.0.gateway) same ∙ h.0
-all_here g c x (e ∷ es) h (inr i) = all_here g c x es h.1 i
-
--- ---- a frame is delivered
+use Rattle.fabric_world.specs.declared.Line.{Line}
+use Rattle.fabric_world.specs.declared.Line.TheVariants.{Frame}
+use Rattle.fabric_world.specs.Happenings.{Gateways, Happening, then_happens, has_ip, accepted, carried_to, carried, carried_each, event_at}
+use Rattle.fabric_world.specs.Happenings as happenings
+use Rattle.fabric_world.specs.Outputs.{Output, Lost}
+use Rattle.fabric_world.specs.Outputs as output
+use Rattle.fabric_world.specs.World.{World, at_gateways, run}
+use Rattle.fabric_world.specs.Logical.{logical_of, Delivers, switch_of, place, member, members, destination, source}
+use Rattle.fabric_world.specs.ReadLines.{AreBytes}
+use Rattle.fabric_world.specs.Delivery.{IsPlain, out_at, IsDelivered, DeliversBound, SwitchesAreRows}
+use Rattle.fabric_world.proofs.Lists.{in_filter, filter_in, some_first}
+use Rattle.fabric_world.proofs.Reached.{follows, reached_settled}
+use Rattle.fabric_world.proofs.Switches.{names_are_rows}
+use Rattle.fabric_world.proofs.Facts.{Binds, port_same, nowhere_known, told_port, port_told, flooded_from, one_switch, bound_is}
+use Rattle.fabric_world.proofs.Addresses.{IsOther, AreOthers, no_others, floods_others, first_others, either_others, tunnelled_others, if_others}
+use Rattle.fabric_world.proofs.Ports.{ordered_is, is_ordered, AreSorted, ordered_sorted, but_sorted, if_sorted, at_port, as_out, outs_in_order, once_in_order}
+use Rattle.fabric_world.proofs.Frames.{to_itself, to_another, destination_is}
 
 same_carried : (x y : ℕ × Bytes) → ◌≡◌ {A = Result (ℕ × Bytes) FrameFault} (Ok x) (Ok y) → x ≡ y
 same_carried x y e = cc
-
-not_true : (t : Bool) → not t ≡ true → t ≡ false
-not_true true e = absurd (cc)
-not_true false e = refl
 
 false_by : (t : Bool) → (t ≡ true → ⊥) → t ≡ false
 false_by true n = absurd (n refl)
 false_by false n = refl
 
-module _ (e : Bytes × Site) (good : IsGoodSite e.0 e.1) (b : Binding) (bytes inner s : Bytes) (carries : Carries bytes b.vlan inner) (enters : IsIn (b, s) e.1.installed) (here : AllHere b.gateway e.1.installed) where
-  abbrev l : Logical
-  l = record { bindings = map member e.1.installed ++ []; owners = [] }
+not_false : (t : Bool) → t ≡ false → not t ≡ true
+not_false true e = absurd (cc)
+not_false false e = refl
 
-  abbrev others : List (Binding × Bytes)
-  others = filter (is_other_member s b.port b.vlan) e.1.installed
+not_true : (t : Bool) → not t ≡ true → t ≡ false
+not_true true e = absurd (cc)
+not_true false e = refl
 
-  abbrev outs : List (Binding × Bytes)
-  outs = map (as_bytes inner) others
+other_way : (m n : ℕ) → (m == n) ≡ false → (n == m) ≡ false
+other_way m n e = grind (arith, nat_tests, e)
 
-  leaves_elsewhere : (c : Binding) (x out : Bytes) → to_itself inner ≡ false → IsIn (c, x) others → out ≡ tagged c.vlan inner → Delivers l b bytes c out
-  leaves_elsewhere c x out away i is =
-      let f = in_filter (is_other_member s b.port b.vlan) (c, x) e.1.installed i in
-      let p = both (same_bytes x s) (not (is_at_place b.port b.vlan (c, x))) f.0 in
-      let switch : x ≡ s = same_is x s p.0 in (
-        s,
-        inner,
-        carries,
+-- ---- packets to addresses that are nobody's
+
+-- none where there is no network
+abbrev lost_of : Option ℕ → List ℕ → List ℕ
+lost_of None ips = []
+lost_of (Some vni) ips = ips
+
+module _ (gs : Gateways) (own : ℕ) (inner : Bytes) where
+  lost_packet : (vni ip : ℕ) → ip < 2 ^ 32 → find (has_ip ip) gs.list ≡ None → carried gs (canon own ip vni inner) ≡ record { gateways = gs; output = Lost ip ∷ [] }
+  lost_packet vni ip small none =
+      let packet : Bytes = canon own ip vni inner in
+      let to : happenings.destination packet ≡ ip = destination_is own ip vni inner small in
+      ap (λ d. carried_to gs packet (find (has_ip d) gs.list)) to
+      ∙ ap (carried_to gs packet) none
+      ∙ ap (λ d. let h : Happening = record { gateways = gs; output = Lost d ∷ [] } in h) to
+
+  lost_each : (vni : ℕ) (ips : List ℕ) → ((ip : ℕ) → IsIn ip ips → (ip < 2 ^ 32) × (find (has_ip ip) gs.list ≡ None))
+      → carried_each gs (map (λ ip. canon own ip vni inner) ips) ≡ record { gateways = gs; output = map Lost ips }
+  lost_each vni [] each = refl
+  lost_each vni (ip ∷ ips) each =
+      let this = each ip (inl refl) in
+      ap (λ h. then_happens h (λ hs. carried_each hs (map (λ jp. canon own jp vni inner) ips))) (lost_packet vni ip this.0 this.1)
+      ∙ ap (λ (n : Happening). let h : Happening = record { gateways = n.gateways; output = Lost ip ∷ n.output } in h) (lost_each vni ips (λ jp is. each jp (inr is)))
+
+  all_lost : (vni : Option ℕ) (ips : List ℕ) → ((ip : ℕ) → IsIn ip ips → (ip < 2 ^ 32) × (find (has_ip ip) gs.list ≡ None))
+      → carried_each gs (packets_of own vni ips inner) ≡ record { gateways = gs; output = map Lost (lost_of vni ips) }
+  all_lost None ips each = refl
+  all_lost (Some vni) ips each = lost_each vni ips each
+
+lost_others : (r : Rows) (vni : Option ℕ) (ips : List ℕ) → AreOthers r ips → AreOthers r (lost_of vni ips)
+lost_others r None ips a = no_others r
+lost_others r (Some vni) ips a = a
+
+-- ---- the frame at its gateway
+
+module _ (r : Rows) (settled : IsSettled r) (plain : rows_of UcastMacsRemote r ≡ []) (c : built.Binding) (c_in : IsIn c (bindings r)) (bytes inner : Bytes) (carries : Carries bytes c.vlan inner) where
+  abbrev facts : Ways
+  facts = ways_of (built.built r)
+
+  abbrev entering : Port
+  entering = (c.port, c.vlan)
+
+  abbrev dst : ℕ
+  dst = hop.destination inner
+
+  abbrev itself : Bool
+  itself = hop.destination inner == hop.source inner
+
+  abbrev vni : Option ℕ
+  vni = facts.vni c.switch
+
+  -- the other bindings of the switch, in order
+  abbrev others : List Port
+  others = but (Some entering) (facts.ports c.switch)
+
+  abbrev ports : List Port
+  ports = cond itself [] others
+
+  abbrev addresses : List ℕ
+  addresses = cond itself [] (tunnelled vni (flooded facts c.switch dst))
+
+  abbrev goes : Way
+  goes = record { outcome = Done; ports = ports; addresses = addresses; vni = vni }
+
+  chosen : (b : Bool) (ps : List Port) (ips : List ℕ) → cond b (nowhere Done vni) (record { outcome = Done; ports = ps; addresses = ips; vni = vni }) ≡ record { outcome = Done; ports = cond b [] ps; addresses = cond b [] ips; vni = vni }
+  chosen true ps ips = refl
+  chosen false ps ips = refl
+
+  way_is : way r (origin.Port c.port c.vlan) inner ≡ goes
+  way_is =
+      let known = nowhere_known r plain c.switch dst (is_group dst) in
+      ap (λ o. from_port facts entering o dst (hop.source inner)) (bound_is r settled.rows settled.sound plain c c_in)
+      ∙ (λ i. cond itself (nowhere Done vni) (record { outcome = Done; ports = ports_to facts c.switch (Some entering) (known i); addresses = addresses_to facts c.switch vni dst (known i); vni = vni }))
+      ∙ chosen itself others (tunnelled vni (flooded facts c.switch dst))
+
+  abbrev answer : Answer
+  answer = record nothing { sent = sent_along (own_ip r) goes inner }
+
+  answer_is : frame_answer r c.port (frame_of bytes) ≡ answer
+  answer_is =
+      ap (frame_answer r c.port) (read_back bytes inner c.vlan carries)
+      ∙ ap (λ (w : Way). sent_unless (why_nowhere w.outcome) (sent_along (own_ip r) w inner)) way_is
+
+  -- the port is there
+  port_there : is_some (port_named r c.port) ≡ true
+  port_there =
+      let x = binding_of r settled.rows settled.sound c c_in in
+      let alone : atoms_at x.row PortName ≡ Text c.port ∷ [] = text_alone x.row PortName (its_contents r PhysicalPort x.id x.row settled.rows x.at) refl c.port (port_text x.row c.port x.named) in
+      let named : is_named c.port x.row ≡ true = ap (λ xs. holds_only xs (Text c.port) && true) alone ∙ ap (λ b. b && true) ((eq_by_cmp_equiv atom_total).refl (Text c.port)) in
+      some_first (λ row. row.0) (x.id, x.row) (filter (λ row. is_named c.port row.1) (rows_of PhysicalPort r))
+      (filter_in (λ row. is_named c.port row.1) (x.id, x.row) (rows_of PhysicalPort r) named (rows_in r PhysicalPort x.id x.row x.at))
+
+  -- where it goes, as addresses
+  go_others : AreOthers r addresses
+  go_others =
+      let lists = λ (group : Option ℕ). first_others r (filter_map (flood_by c.switch group) (built.built r)) (λ ips is. floods_others r c.switch ips (flooded_from r plain c.switch group ips is)) in
+      by itself (tunnelled_others r vni (flooded facts c.switch dst)
+      (either_others r (group_targets facts c.switch dst) (facts.flood c.switch None) (if_others r (is_group dst) (facts.flood c.switch (Some dst)) (lists (Some dst))) (lists None)))
+    where
+      by : (b : Bool) {ips : List ℕ} → AreOthers r ips → AreOthers r (cond b [] ips)
+      by true a = no_others r
+      by false a = a
+
+  go_sorted : AreSorted ports
+  go_sorted = if_sorted itself others (but_sorted entering (facts.ports c.switch) (ordered_sorted (filter_map (port_by c.switch) (built.built r))))
+
+  -- ---- in a fabric of this gateway
+
+  module _ (w : World) (g : Bytes) (gateway : Gateway) (only : w.gateways.list ≡ (g, gateway) ∷ []) (rows_are : gateway.vtep.rows ≡ r) where
+    abbrev gs : Gateways
+    gs = w.gateways
+
+    abbrev frame : Event
+    frame = event.Frame c.port bytes
+
+    abbrev line : Line
+    line = Frame (record { g = g; p = c.port; hex = bytes })
+
+    abbrev stepped : Step
+    stepped = record { gateway = gateway; answer = answer }
+
+    at : maps.get gs g ≡ Some gateway
+    at = in_get nat_list_cmp_total gs g gateway (subst (λ es. IsIn (g, gateway) es) (sym only) (inl refl))
+
+    found : is_some (port_named gateway.vtep.rows c.port) ≡ true
+    found = ap (λ x. is_some (port_named x c.port)) rows_are ∙ port_there
+
+    answered : frame_answer gateway.vtep.rows c.port (frame_of bytes) ≡ answer
+    answered = ap (λ x. frame_answer x c.port (frame_of bytes)) rows_are ∙ answer_is
+
+    step_is : moves.step gateway frame ≡ stepped
+    step_is =
+        ap (λ b. cond b (record { gateway = gateway; answer = frame_answer gateway.vtep.rows c.port (frame_of bytes) }) (refused gateway NoPort)) found
+        ∙ ap (λ (a : Answer). let s : Step = record { gateway = gateway; answer = a } in s) answered
+
+    abbrev ok : {A : Type 0} → A → Result A Fault
+    ok a = Ok a
+
+    event_is : event_at gs g frame ≡ ok (follows gs g frame stepped)
+    event_is =
+        ap (λ o. or_refuse (record { word = 1; reason = Unknown }) o >>= (λ gateway. accepted (moves.step gateway frame) >>= (λ s. ok (follows gs g frame s)))) at
+        ∙ ap (λ s. accepted s >>= (λ s. ok (follows gs g frame s))) step_is
+
+    nobody : (ip : ℕ) → IsOther r ip → list_any (has_ip ip) gs.list ≡ false
+    nobody ip other =
+        ap (list_any (has_ip ip)) only ∙ ap (λ x. (own_ip x == ip) || false) rows_are ∙ ap (λ b. b || false) (other_way ip (own_ip r) other.other)
+
+    not_found : (ip : ℕ) → IsOther r ip → find (has_ip ip) gs.list ≡ None
+    not_found ip other =
+        ap (find (has_ip ip)) only ∙ ap (λ x. cond (own_ip x == ip) (Some (g, gateway)) None) rows_are ∙ ap (λ b. cond b (Some (g, gateway)) None) (other_way ip (own_ip r) other.other)
+
+    abbrev outs : List (Binding × Bytes)
+    outs = map (as_out g inner) ports
+
+    abbrev lost : List ℕ
+    lost = lost_of vni addresses
+
+    abbrev written : List Output
+    written = map out_at outs ++ map Lost lost
+
+    as_written : (ps : List Port) → map (λ (o : Out). output.Out g o.port o.bytes) (map (out_of inner) ps) ≡ map out_at (map (as_out g inner) ps)
+    as_written [] = refl
+    as_written (p ∷ ps) = ap (λ os. output.Out g p.0 (tagged p.1 inner) ∷ os) (as_written ps)
+
+    -- the gateway is as it was, and its packets are lost
+    carried_is : carried_each (maps.insert gs g gateway) (packets_of (own_ip r) vni addresses inner) ≡ record { gateways = gs; output = map Lost lost }
+    carried_is =
+        ap (λ (hs : Gateways). carried_each hs (packets_of (own_ip r) vni addresses inner)) (sym (put_again nat_list_cmp_total exact_bytes gs g gateway at))
+        ∙ all_lost gs (own_ip r) inner vni addresses (λ ip is. let o = go_others.each ip is in (o.small, not_found ip o))
+
+    happens_is : follows gs g frame stepped ≡ record { gateways = gs; output = written }
+    happens_is =
+        ap (λ (n : Happening). let h : Happening = record { gateways = n.gateways; output = map (λ (o : Out). output.Out g o.port o.bytes) (map (out_of inner) ports) ++ n.output } in h) carried_is
+        ∙ ap (λ (os : List Output). let h : Happening = record { gateways = gs; output = os ++ map Lost lost } in h) (as_written ports)
+
+    run_is : run w line ≡ Ok (record { world = w; output = written })
+    run_is =
+        ap (λ e. e >>= (λ h. ok (at_gateways w h))) event_is
+        ∙ ap (λ h. ok (at_gateways w h)) happens_is
+
+    -- ---- the bindings of the fabric
+
+    member_in : (d : built.Binding) → IsIn d (bindings r) → IsIn (switch_of r d.switch, place g d) (logical_of w).bindings
+    member_in d d_in =
+        subst (λ es. IsIn (switch_of r d.switch, place g d) (flat_map members es)) (sym only)
+        (subst (λ x. IsIn (switch_of r d.switch, place g d) (map (member g x) (bindings x) ++ [])) (sym rows_are)
+        (in_front (switch_of r d.switch, place g d) (map (member g r) (bindings r)) [] (map_in (member g r) d (bindings r) d_in)))
+
+    in_member : (t : Bytes) (b : Binding) → IsIn (t, b) (logical_of w).bindings → (d : built.Binding) × IsIn d (bindings r) × (t ≡ switch_of r d.switch) × (b ≡ place g d)
+    in_member t b is =
+        let here = subst (λ x. IsIn (t, b) (map (member g x) (bindings x) ++ [])) rows_are (subst (λ es. IsIn (t, b) (flat_map members es)) only is) in
+        elim (in_either (t, b) (map (member g r) (bindings r)) [] here) [
+          | inl h ↦ (let d = in_map (member g r) (t, b) (bindings r) h in (d.0, d.1, ap (λ (x : Bytes × Binding). x.0) d.2, ap (λ (x : Bytes × Binding). x.1) d.2))
+          | inr h ↦ absurd h
+        ]
+
+    -- ---- what is written is what is delivered
+
+    leaves_elsewhere : itself ≡ false → (q : Port) → IsIn q others → Delivers (logical_of w) (place g c) bytes (at_port g q) (tagged q.1 inner)
+    leaves_elsewhere away q is =
+        let f = in_filter (λ p. not (same_port p entering)) q (facts.ports c.switch) is in
+        let m : Binds r q.0 q.1 c.switch = told_port r plain c.switch q (ordered_is q (filter_map (port_by c.switch) (built.built r)) f.1) in (
+          switch_of r c.switch,
+          inner,
+          carries,
+          record {
+            enters = member_in c c_in;
+            to_another = to_another inner away;
+            leaves = subst (λ (x : Bytes × Binding). IsIn x (logical_of w).bindings) (λ i. (switch_of r (sym m.switch_is i), at_port g (sym m.port_is i, sym m.vlan_is i))) (member_in m.of m.there);
+            elsewhere = λ same.
+                let test : same_port q entering ≡ true = (λ i. same_port ((same i).port, (same i).vlan) entering) ∙ (λ i. bytes_itself c.port i && number_itself c.vlan i) in
+                let clash : true ≡ false = sym test ∙ not_true (same_port q entering) f.0 in
+                cc;
+            owned = inr (λ d o. absurd o.1);
+          },
+          refl,
+        )
+
+    delivered_elsewhere : AreBytes bytes → (x : Binding) (out : Bytes) → Delivers (logical_of w) (place g c) bytes x out → IsIn (x, out) outs
+    delivered_elsewhere are x out (t, carried_inner, how, on, is) =
+        let same : carried_inner ≡ inner = ap (λ (z : ℕ × Bytes). z.1) (same_carried (c.vlan, carried_inner) (c.vlan, inner) (sym (read_back bytes carried_inner c.vlan how) ∙ read_back bytes inner c.vlan carries)) in
+        let away : itself ≡ false = false_by itself (λ e. on.to_another (subst (λ z. destination z ≡ source z) (sym same) (to_itself bytes inner c.vlan carries are e))) in
+        let b = in_member t (place g c) on.enters in
+        let d = in_member t x on.leaves in
+        let one : c.switch ≡ b.0.switch = one_switch r settled.rows settled.sound plain c b.0 c_in b.1 (ap (λ (y : Binding). y.port) b.3) (ap (λ (y : Binding). y.vlan) b.3) in
+        let of : d.0.switch ≡ c.switch = names_are_rows r settled.rows settled.sound d.0 c d.1 c_in (sym d.2 ∙ b.2 ∙ ap (switch_of r) (sym one)) in
+        let q : Port = (d.0.port, d.0.vlan) in
+        let there : IsIn q (facts.ports c.switch) = is_ordered q (filter_map (port_by c.switch) (built.built r)) (port_told r plain c.switch d.0 d.1 of) in
+        let other : same_port q entering ≡ false = false_by (same_port q entering) (λ e. on.elsewhere (d.3 ∙ ap (at_port g) (port_same q entering e))) in
+        let kept : IsIn q others = filter_in (λ p. not (same_port p entering)) q (facts.ports c.switch) (not_false (same_port q entering) other) there in
+        let all : IsIn q ports = subst (λ b. IsIn q (cond b [] others)) (sym away) kept in
+        let entry : ◌≡◌ {A = Binding × Bytes} (as_out g inner q) (x, out) = λ i. (sym d.3 i, sym (is ∙ (λ j. tagged (d.3 j).vlan (same j))) i) in
+        subst (λ (y : Binding × Bytes). IsIn y outs) entry (map_in (as_out g inner) q ports all)
+
+    by_test : (b : Bool) → itself ≡ b → (x : Binding) (out : Bytes) → IsIn (x, out) (map (as_out g inner) (cond b [] others)) → Delivers (logical_of w) (place g c) bytes x out
+    by_test true e x out is = absurd is
+    by_test false e x out is =
+        let q = in_map (as_out g inner) (x, out) others is in
+        subst (λ (y : Binding × Bytes). Delivers (logical_of w) (place g c) bytes y.0 y.1) (sym q.2) (leaves_elsewhere e q.0 q.1)
+
+    delivered : AreBytes bytes → IsDelivered w (place g c) bytes written
+    delivered are =
+        let others_lost : AreOthers r lost = lost_others r vni addresses go_others in
+        let order = outs_in_order g inner ports go_sorted in
         record {
-          enters = in_member s b e.1.installed enters;
-          to_another = λ same. let t : same_bytes (destination inner) (source inner) ≡ true = subst (λ z. same_bytes (destination inner) z ≡ true) same (same_self (destination inner)) in let u : true ≡ false = sym t ∙ away in cc;
-          leaves = in_member s c e.1.installed (subst (λ z. IsIn (c, z) e.1.installed) switch f.1);
-          elsewhere = λ same. let t : true ≡ false = sym (ap (λ z. is_at_place b.port b.vlan (z, x)) same ∙ at_its_place b x) ∙ not_true _ p.1 in cc;
-          owned = inr (λ d o. elim o.1 [ ]);
-        },
-        is,
-      )
+          outs = outs;
+          lost = lost;
+          written_so = refl;
+          in_order = order;
+          each_once = once_in_order outs order;
+          exact = λ x out. (λ is. by_test itself refl x out is, λ d. delivered_elsewhere are x out d);
+          ascending = others_lost.ascending;
+          nobodys = λ ip is. nobody ip (others_lost.each ip is);
+        }
 
-  delivered_elsewhere : (c : Binding) (out : Bytes) → Delivers l b bytes c out → IsIn (c, out) outs
-  delivered_elsewhere c out (t, carried, how, on, is) =
-      let same : carried ≡ inner = ap (λ z. z.1) (same_carried (b.vlan, carried) (b.vlan, inner) (sym (read_back bytes carried b.vlan how) ∙ read_back bytes inner b.vlan carries)) in
-      let switch : t ≡ s = one_switch b t s e.1.installed good.in_order (member_in t b e.1.installed on.enters) enters in
-      let there : IsIn (c, t) e.1.installed = member_in t c e.1.installed on.leaves in
-      let gateway : c.gateway ≡ b.gateway = all_here b.gateway c t e.1.installed here there in
-      let of_switch : same_bytes t s ≡ true = subst (λ z. same_bytes t z ≡ true) switch (same_self t) in
-      let other : is_at_place b.port b.vlan (c, t) ≡ false = false_by _ (λ p. on.elsewhere (is_binding b (c, t) gateway p)) in
-      let passes : is_other_member s b.port b.vlan (c, t) ≡ true = rw (of_switch, other) refl in
-      subst (λ o. IsIn (c, o) outs) (sym (is ∙ ap (tagged c.vlan) same)) (mapped_in inner c t others (filter_in (is_other_member s b.port b.vlan) (c, t) e.1.installed passes there))
+    -- of the binding that the fabric has
+    pub delivers : (b : Binding) → b ≡ place g c → AreBytes bytes
+        → (written : List Output) × (run w (Frame (record { g = b.gateway; p = b.port; hex = bytes })) ≡ Ok (record { world = w; output = written })) × IsDelivered w b bytes written
+    delivers b is are = subst (λ (x : Binding). (written : List Output) × (run w (Frame (record { g = x.gateway; p = x.port; hex = bytes })) ≡ Ok (record { world = w; output = written })) × IsDelivered w x bytes written) (sym is) (written, run_is, delivered are)
 
-  exact_away : to_itself inner ≡ false → (c : Binding) (out : Bytes) → IsIn (c, out) outs ↔ Delivers l b bytes c out
-  exact_away away c out = (λ i. let r = in_mapped inner c out others i in leaves_elsewhere c r.0 out away r.1 r.2, λ d. delivered_elsewhere c out d)
+-- ---- every state that lines lead to
 
-  -- a frame to its own source goes nowhere
-  nowhere : to_itself inner ≡ true → (c : Binding) (out : Bytes) → Delivers l b bytes c out → ⊥
-  nowhere itself c out (t, carried, how, on, is) =
-      let same : carried ≡ inner = ap (λ z. z.1) (same_carried (b.vlan, carried) (b.vlan, inner) (sym (read_back bytes carried b.vlan how) ∙ read_back bytes inner b.vlan carries)) in
-      on.to_another (subst (λ z. destination z ≡ source z) (sym same) (same_is (destination inner) (source inner) itself))
+pub delivers_bound : DeliversBound
+delivers_bound lines w b bytes inner s leads plain are carries enters = by w.gateways.list refl plain enters
+  where
+    by : (es : List (Bytes × Gateway)) → w.gateways.list ≡ es → IsPlain es → IsIn (s, b) (flat_map members es)
+        → (written : List Output) × (run w (Frame (record { g = b.gateway; p = b.port; hex = bytes })) ≡ Ok (record { world = w; output = written })) × IsDelivered w b bytes written
+    by [] only alone is = absurd is
+    by (e ∷ f ∷ es) only alone is = absurd alone
+    by (e ∷ []) only alone is =
+        let r : Rows = e.1.vtep.rows in
+        let settled : IsSettled r = reached_settled lines w leads e.0 e.1 (in_get nat_list_cmp_total w.gateways e.0 e.1 (subst (λ es. IsIn e es) (sym only) (inl refl))) in
+        elim (in_either (s, b) (map (member e.0 r) (bindings r)) [] is) [
+          | inr h ↦ absurd h
+          | inl h ↦
+              let c = in_map (member e.0 r) (s, b) (bindings r) h in
+              let at : b ≡ place e.0 c.0 = ap (λ (x : Bytes × Binding). x.1) c.2 in
+              delivers r settled alone c.0 c.1 bytes inner (subst (λ (x : Binding). Carries bytes x.vlan inner) at carries) w e.0 e.1 only refl b at are
+        ]
 
-  flood_delivers : (t : Bool) → to_itself inner ≡ t → IsDelivered l b bytes (cond t [] (map (leaves b.gateway inner) others))
-  flood_delivers true is = record { outs = []; written_so = refl; in_order = tt; each_once = tt; exact = λ c out. (λ i. elim i [ ], λ d. absurd (nowhere is c out d)) }
-  flood_delivers false is =
-      let order : InOrder outs = in_order-mapped inner others (in_order-filter (is_other_member s b.port b.vlan) e.1.installed good.in_order) in
-      record {
-        outs = outs;
-        written_so = written-mapped inner b.gateway others (here-any_filter (is_other_member s b.port b.vlan) b.gateway e.1.installed here);
-        in_order = order;
-        each_once = once_in_order outs order;
-        exact = exact_away is;
-      }
-
-  site_delivers : IsDelivered l b bytes (entered b.gateway e.1 b.port (frame_of bytes))
-  site_delivers =
-      let is : entered b.gateway e.1 b.port (frame_of bytes) ≡ cond (to_itself inner) [] (map (leaves b.gateway inner) others) =
-      ap (entered b.gateway e.1 b.port) (read_back bytes inner b.vlan carries)
-      ∙ ap (flooded b.gateway e.1 b.port b.vlan inner) (found_at b s e.1.installed here good.in_order enters) in
-      subst (IsDelivered l b bytes) (sym is) (flood_delivers (to_itself inner) refl)
-
-sites_deliver : (es : List (Bytes × Site)) (b : Binding) (bytes inner s : Bytes) → IsGood es → Carries bytes b.vlan inner → IsIn (s, b) (flat_map members es)
-    → IsDelivered (record { bindings = flat_map members es; owners = [] }) b bytes (frame_outputs b.gateway b.port bytes (maps_find b.gateway es))
-sites_deliver [] b bytes inner s good carries i = elim i [ ]
-sites_deliver (e ∷ f ∷ es) b bytes inner s good carries i = absurd good
-sites_deliver (e ∷ []) b bytes inner s good carries i =
-    let enters : IsIn (b, s) e.1.installed = member_in s b e.1.installed i in
-    let at : b.gateway ≡ e.0 = all_here e.0 b s e.1.installed good.here enters in
-    let here : AllHere b.gateway e.1.installed = subst (λ g. AllHere g e.1.installed) (sym at) good.here in
-    let tied : bytes_cmp b.gateway e.0 ≡ Equal = ap (λ g. bytes_cmp g e.0) at ∙ tied_itself nat_list_cmp_total e.0 in
-    rw tied (site_delivers e good b bytes inner s carries enters here)
-
-pub delivers_installed : DeliversInstalled
-delivers_installed lines b bytes inner s accepted carries i = sites_deliver (after start lines).sites.list b bytes inner s (good_after lines start refl tt accepted) carries i
+pub switches_are_rows : SwitchesAreRows
+switches_are_rows r b c rows sound b_in c_in = (names_are_rows r rows sound b c b_in c_in, λ same. ap (switch_of r) same)

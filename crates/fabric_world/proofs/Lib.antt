@@ -1,3 +1,13 @@
-pub mod Worked
-pub mod DeliveryLaw
 pub mod TextLaws
+pub mod Steps
+pub mod Lists
+pub mod Ranges
+pub mod LineRanges
+pub mod Reached
+pub mod Switches
+pub mod Facts
+pub mod Addresses
+pub mod Ports
+pub mod Frames
+pub mod DeliveryLaw
+pub mod Worked

@@ -1,63 +1,108 @@
--- Worked scripts and their output, by computation.
-use Rattle.std.proofs.Common.{◌≡◌, [], refl, codes}
-use Rattle.std.specs.Str.{is_utf8, chars}
-use Rattle.json_notation.specs.Computes.{texts as json_texts}
+-- Frames at gateways whose rows stand as they are written here, by computation.
+use Rattle.std.specs.Prelude.{◌≡◌, ℕ, pos, List, [], ◌∷◌, ◌++◌, map, Result, Ok, Err, codes, refl}
+use Rattle.vtep_base.specs.Reading.{Bytes}
+use Rattle.vtep_base.specs.Maps as maps
+use Rattle.ovsdb_values.specs.declared.atoms.Atom.TheVariants.{Integer, Text, Id}
+use Rattle.ovsdb_values.specs.declared.datums.Datum.TheVariants as datum
+use Rattle.ovsdb_values.specs.Sets.{one}
+use Rattle.vtep_schema.specs.declared.Table.TheVariants.{LogicalSwitch, PhysicalPort, McastMacsRemote, PhysicalLocatorSet, PhysicalLocator}
+use Rattle.vtep_schema.specs.declared.Column.TheVariants.{LogicalName, LogicalDescription, LogicalTunnelKey, LogicalReplicationMode, PortVlanBindings, McastRemoteMac, McastRemoteLogicalSwitch, McastRemoteLocatorSet, SetLocators, LocatorDstIp}
+use Rattle.vtep_rows.specs.Row.{Contents, with_value, default_row}
+use Rattle.vtep_rows.specs.Rows.{Rows, replaced}
+use Rattle.vtep_gateway.specs.Gateway.{Gateway, new_gateway}
+use Rattle.vtep_gateway.specs.Ports.{port_row}
+use Rattle.vtep_gateway.specs.Vtep.{with_rows}
+use Rattle.fabric_world.specs.declared.Fault.{Fault}
+use Rattle.fabric_world.specs.declared.Line.TheVariants.{Frame}
+use Rattle.fabric_world.specs.Outputs.{Output, Out, Lost}
+use Rattle.fabric_world.specs.World.{World, Outcome, start, run}
+use Rattle.fabric_world.specs.Logical.{logical_of}
 use Rattle.fabric_world.specs.Computes.{texts}
-use Rattle.fabric_world.specs.declared.Form.TheVariants as form
-use Rattle.fabric_world.specs.Script.{output}
 
-pub one_gateway : output form.Replay (codes "fabric 1\ngateway g1 10.0.0.1\nport g1 p1\nport g1 p2\nswitch red 100 source\nbind red g1 p1 0\nbind red g1 p2 0\nsettle\nframe g1 p1 ffffffffffff02000000000188b5\nend\n")
-    ≡ codes "settled\nout g1 p2 ffffffffffff02000000000188b5\n"
+-- ---- rows
+
+-- a switch without a network, or with the network 100
+abbrev named : Bytes → Contents
+named name = with_value (with_value (default_row LogicalSwitch) LogicalName (one (Text name))) LogicalDescription (one (Text (codes "a switch")))
+
+abbrev red : Contents
+red = with_value (with_value (named (codes "red")) LogicalTunnelKey (one (Integer (pos 100)))) LogicalReplicationMode (one (Text (codes "source_node")))
+
+-- a port with one VLAN
+abbrev port : Bytes → ℕ → ℕ → Contents
+port name vlan switch = with_value (port_row name) PortVlanBindings (datum.Map ((Integer (pos vlan), Id switch) ∷ []))
+
+abbrev locator : Bytes → Contents
+locator ip = with_value (default_row PhysicalLocator) LocatorDstIp (one (Text ip))
+
+-- what has no other place goes to the set of row 20
+abbrev unknown : ℕ → Contents
+unknown switch =
+    with_value (with_value (with_value (default_row McastMacsRemote) McastRemoteMac (one (Text (codes "unknown-dst")))) McastRemoteLogicalSwitch (one (Id switch))) McastRemoteLocatorSet (one (Id 20))
+
+abbrev gateway : Bytes → ℕ → (Rows → Rows) → Gateway
+gateway name ip change = let new : Gateway = new_gateway name ip in record new { vtep = with_rows new.vtep (change new.vtep.rows) }
+
+-- red at three ports and blue, with the same description, at one
+abbrev bound : Rows → Rows
+bound r =
+    let switches : Rows = replaced (replaced r (LogicalSwitch, 5) red) (LogicalSwitch, 6) (named (codes "blue")) in
+    replaced (replaced (replaced (replaced switches (PhysicalPort, 13) (port (codes "p3") 7 5)) (PhysicalPort, 12) (port (codes "p2") 0 5)) (PhysicalPort, 11) (port (codes "p1") 0 5))
+    (PhysicalPort, 14) (port (codes "p4") 0 6)
+
+-- red at p1, and elsewhere at three locators, of which two have one address
+abbrev tunnels : Rows → Rows
+tunnels r =
+    let locators : Rows = replaced (replaced (replaced r (PhysicalLocator, 30) (locator (codes "10.0.0.3"))) (PhysicalLocator, 31) (locator (codes "10.0.0.2"))) (PhysicalLocator, 32) (locator (codes "10.0.0.3")) in
+    let set : Rows = replaced locators (PhysicalLocatorSet, 20) (with_value (default_row PhysicalLocatorSet) SetLocators (datum.Set (Id 30 ∷ Id 31 ∷ Id 32 ∷ []))) in
+    replaced (replaced (replaced set (LogicalSwitch, 5) red) (PhysicalPort, 11) (port (codes "p1") 0 5)) (McastMacsRemote, 40) (unknown 5)
+
+-- ---- frames
+
+abbrev addresses : ℕ → ℕ → Bytes
+addresses dst src = 2 ∷ 0 ∷ 0 ∷ 0 ∷ 0 ∷ dst ∷ 2 ∷ 0 ∷ 0 ∷ 0 ∷ 0 ∷ src ∷ []
+
+abbrev rest : Bytes
+rest = 0x88 ∷ 0xb5 ∷ []
+
+abbrev frame : ℕ → ℕ → Bytes
+frame dst src = addresses dst src ++ rest
+
+abbrev written : Result Outcome Fault → List Output
+written (Ok o) = o.output
+written (Err why) = []
+
+abbrev with_gateways : List Gateway → World
+with_gateways gs = record start { gateways = maps.of_list (map (λ g. (g.vtep.name, g)) gs) }
+
+abbrev one_gateway : World
+one_gateway = with_gateways (gateway (codes "g1") 0x0a000001 bound ∷ [])
+
+abbrev two_gateways : World
+two_gateways = with_gateways (gateway (codes "g1") 0x0a000001 tunnels ∷ gateway (codes "g3") 0x0a000003 tunnels ∷ [])
+
+-- at the other bindings of its switch, each in its form
+leaves_at_two : written (run one_gateway (Frame (record { g = codes "g1"; p = codes "p1"; hex = frame 9 1 })))
+    ≡ Out (codes "g1") (codes "p2") (frame 9 1) ∷ Out (codes "g1") (codes "p3") (addresses 9 1 ++ (0x81 ∷ 0 ∷ 0 ∷ 7 ∷ []) ++ rest) ∷ []
 unfolding texts
-one_gateway = refl
+leaves_at_two = refl
 
-pub nothing_read : output form.Replay [] ≡ codes "refused 1 1 first\n"
+-- to its own source
+leaves_nowhere : written (run one_gateway (Frame (record { g = codes "g1"; p = codes "p1"; hex = frame 1 1 }))) ≡ []
 unfolding texts
-nothing_read = refl
+leaves_nowhere = refl
 
-pub unknown_gateway : output form.Replay (codes "fabric 1\nport g9 p1\n") ≡ codes "refused 2 6 unknown\n"
+-- packets in ascending order of their addresses, one for each: that of nobody is lost, and the other comes to its gateway
+is_carried : written (run two_gateways (Frame (record { g = codes "g1"; p = codes "p1"; hex = frame 9 1 })))
+    ≡ Lost 0x0a000002 ∷ Out (codes "g3") (codes "p1") (frame 9 1) ∷ []
 unfolding texts
-unknown_gateway = refl
+is_carried = refl
 
-pub no_end : output form.Replay (codes "fabric 1\n") ≡ codes "refused 2 1 end\n"
+-- the other way round, where the own address is passed over
+is_lost : written (run two_gateways (Frame (record { g = codes "g3"; p = codes "p1"; hex = frame 9 1 }))) ≡ Lost 0x0a000002 ∷ []
 unfolding texts
-no_end = refl
+is_lost = refl
 
-pub no_end_or_line_feed : output form.Replay (codes "fabric 1") ≡ codes "refused 2 1 end\n"
-unfolding texts
-no_end_or_line_feed = refl
-
-pub tags : output form.Replay (codes "fabric 1\ngateway g1 10.0.0.1\nport g1 p1\nport g1 p2\nport g1 p3\nswitch red 100 source\nbind red g1 p1 7\nbind red g1 p2 0\nbind red g1 p3 4095\nsettle\nframe g1 p1 ffffffffffff0200000000018100000788b5aa\nframe g1 p1 ffffffffffff02000000000188b5\nframe g1 p1 ffffffffffff02000000000188\nframe g1 p1 -\nend\n")
-    ≡ codes "settled\nout g1 p2 ffffffffffff02000000000188b5aa\nout g1 p3 ffffffffffff02000000000181000fff88b5aa\ndrop g1 unbound\ndrop g1 frame Short 13\ndrop g1 frame Short 0\n"
-unfolding texts
-tags = refl
-
-pub comments_and_spaces : output form.Replay (codes "# a comment\n\n  fabric   1  \r\n gateway g1 10.0.0.256\n") ≡ codes "refused 4 13 value\n"
-unfolding texts
-comments_and_spaces = refl
-
-pub too_few : output form.Replay (codes "fabric 1\ngateway g1\nend\n") ≡ codes "refused 2 11 words\n"
-unfolding texts
-too_few = refl
-
-pub packets : output form.Replay (codes "fabric 1\ngateway g2 10.0.0.2\nport g2 p1\nswitch red 100 source\nbind red g2 p1 0\nsettle\nunderlay g2 4500003200004000401126b90a0000010a000002c73a12b5001e00000800000000006400ffffffffffff02000000000188b5\nunderlay g2 4500003200004000401126b90a0000010a000002c73a12b5001e00000800000000006400ffffffffffff02000000000188b50000\nunderlay g2 4500003200004000401126b90a0000010a000002c73a12b5001e00000000000000006400ffffffffffff02000000000188b5\nunderlay g2 4500003200004000401126ba0a0000010a000002c73a12b5001e00000800000000006400ffffffffffff02000000000188b5\nunderlay g2 4500003200004000401126b90a0000010a000002c73a12b5001e00000800000000006500ffffffffffff02000000000188b5\nend\n")
-    ≡ codes "settled\nout g2 p1 ffffffffffff02000000000188b5\nout g2 p1 ffffffffffff02000000000188b5\ndrop g2 packet NoVni 28\ndrop g2 packet Checksum 10\ndrop g2 vni\n"
-unfolding texts
-packets = refl
-
-pub for_another : output form.Replay (codes "fabric 1\ngateway g1 10.0.0.1\nunderlay g1 4500003200004000401126b90a0000010a000002c73a12b5001e00000800000000006400ffffffffffff02000000000188b5\nend\n") ≡ codes "drop g1 address\n"
-unfolding texts
-for_another = refl
-
-pub inspected : output form.Inspect (codes "# a capture\n4500003200004000401126b90a0000010a000002c73a12b5001e00000800000000006400ffffffffffff02000000000188b5\n4500003200004000401126b90a0000010a0000\n-") ≡ codes "packet 10.0.0.1 10.0.0.2 100 ffffffffffff02000000000188b5\nrefused Short 19\nrefused Short 0\n"
-unfolding texts
-inspected = refl
-
-pub two_words : output form.Inspect (codes "-\n -  00\n") ≡ codes "refused Short 0\nrefused 2 5 words\n"
-unfolding texts
-two_words = refl
-
-pub sessions : output form.Replay (codes "fabric 1\ngateway g1 10.0.0.1\nrpc g1 1 7b226d6574686f64223a226c6973745f646273222c22706172616d73223a5b5d2c226964223a317d\nrpc g1 1 7b226d6574686f64223a226563686f222c22706172616d73223a5b225c\nrpc g1 1 227d5b225d2c226964223a2261227d\nrpc g1 2 2078\nrpc g1 2 7b7d\nhangup g1 2\nrpc g1 2 -\nhangup g1 3\n")
-    ≡ codes "rpc g1 1 {\"error\":null,\"id\":1,\"result\":[\"hardware_vtep\"]}\nrpc g1 1 {\"error\":null,\"id\":\"a\",\"result\":[\"\\\"}[\"]}\nfailed g1 2 NotObject 1\nfailed g1 2 NotObject 1\nrefused 10 11 unknown\n"
-unfolding texts json_texts is_utf8 chars
-sessions = refl
+-- the logical network has switches by name
+names : map (λ b. b.0) (logical_of one_gateway).bindings ≡ codes "red" ∷ codes "red" ∷ codes "red" ∷ codes "blue" ∷ []
+names = refl

@@ -2,8 +2,8 @@
 use Rattle.std.specs.Prelude.{ℕ}
 use Rattle.std.specs.Fmt.{digits}
 use Rattle.hex.specs.Hex.{encode_with, decode_pairs}
-use Rattle.vxlan_frames.specs.Packets.{packet_of}
+use Rattle.vxlan_frames.specs.Packets.{canon, packet_of}
 
 unfoldable pub texts : ℕ
-unfolding digits encode_with decode_pairs packet_of
+unfolding digits encode_with decode_pairs canon packet_of
 texts = 0

@@ -1,8 +1,13 @@
 pub mod Text
 pub mod Lines
+pub mod Outputs
+pub mod Intentions
+pub mod Installer
+pub mod Happenings
 pub mod World
-pub mod Script
 pub mod Logical
+pub mod ReadLines
 pub mod Delivery
-pub mod Computes
+pub mod Script
 pub mod Pieces
+pub mod Computes

@@ -12,7 +12,8 @@ use Rattle.vtep_base.specs.declared.answers.LineReason.TheVariants as reason
 use Rattle.fabric_world.specs.declared.Refusal.{Refusal}
 use Rattle.fabric_world.specs.declared.Kind.{Kind}
 use Rattle.fabric_world.specs.declared.Kind.TheVariants as kind
-use Rattle.fabric_world.specs.declared.Line.TheVariants.{Gateway, Port, Unport, Switch, Bind, Settle, Frame, Underlay, Rpc, Hangup}
+use Rattle.fabric_world.specs.declared.Intent.TheVariants.{Switch, Bind}
+use Rattle.fabric_world.specs.declared.Line.TheVariants.{Gateway, Port, Unport, Intend, Frame, Underlay, Rpc, Hangup, Settle, Show}
 use Rattle.fabric_world.specs.declared.Instruction.{Instruction}
 use Rattle.fabric_world.specs.declared.Instruction.TheVariants.{Do, End}
 use Rattle.fabric_world.specs.Text.{Word, words, bad_byte}
@@ -37,10 +38,11 @@ kind_text kind.Frame = codes "frame"
 kind_text kind.Underlay = codes "underlay"
 kind_text kind.Rpc = codes "rpc"
 kind_text kind.Hangup = codes "hangup"
+kind_text kind.Show = codes "show"
 kind_text kind.End = codes "end"
 
 abbrev pub kinds : List Kind
-kinds = kind.Gateway ∷ kind.Port ∷ kind.Unport ∷ kind.Switch ∷ kind.Bind ∷ kind.Settle ∷ kind.Frame ∷ kind.Underlay ∷ kind.Rpc ∷ kind.Hangup ∷ kind.End ∷ []
+kinds = kind.Gateway ∷ kind.Port ∷ kind.Unport ∷ kind.Switch ∷ kind.Bind ∷ kind.Settle ∷ kind.Frame ∷ kind.Underlay ∷ kind.Rpc ∷ kind.Hangup ∷ kind.Show ∷ kind.End ∷ []
 
 -- the first of the kinds that has this word
 abbrev pub kind_among : Bytes → List Kind → Option Kind
@@ -62,6 +64,7 @@ arity kind.Frame = 3
 arity kind.Underlay = 2
 arity kind.Rpc = 3
 arity kind.Hangup = 2
+arity kind.Show = 1
 arity kind.End = 0
 
 -- ---- the forms of words
@@ -97,45 +100,48 @@ abbrev pub instruction : Kind → List Word → Result Instruction Refusal
 instruction kind.Gateway ws = do
   g ← word_at name_of ws 1
   ip ← word_at ipv4_of ws 2
-  Ok (Do (Gateway g ip))
+  Ok (Do (Gateway (record { g = g; ip = ip })))
 instruction kind.Port ws = do
   g ← word_at name_of ws 1
   p ← word_at name_of ws 2
-  Ok (Do (Port g p))
+  Ok (Do (Port (record { g = g; p = p })))
 instruction kind.Unport ws = do
   g ← word_at name_of ws 1
   p ← word_at name_of ws 2
-  Ok (Do (Unport g p))
+  Ok (Do (Unport (record { g = g; p = p })))
 instruction kind.Switch ws = do
   s ← word_at name_of ws 1
   vni ← word_at vni_of ws 2
   mode ← word_at mode_of ws 3
-  Ok (Do (Switch s (record { vni = vni; mode = mode })))
+  Ok (Do (Intend (Switch s vni mode)))
 instruction kind.Bind ws = do
   s ← word_at name_of ws 1
   g ← word_at name_of ws 2
   p ← word_at name_of ws 3
   v ← word_at vlan_of ws 4
-  Ok (Do (Bind s (record { gateway = g; port = p; vlan = v })))
-instruction kind.Settle ws = Ok (Do Settle)
+  Ok (Do (Intend (Bind s g p v)))
+instruction kind.Settle ws = Ok (Do (Settle (record {})))
 instruction kind.Frame ws = do
   g ← word_at name_of ws 1
   p ← word_at name_of ws 2
   bytes ← word_at hex_of ws 3
-  Ok (Do (Frame g p bytes))
+  Ok (Do (Frame (record { g = g; p = p; hex = bytes })))
 instruction kind.Underlay ws = do
   g ← word_at name_of ws 1
   bytes ← word_at hex_of ws 2
-  Ok (Do (Underlay g bytes))
+  Ok (Do (Underlay (record { g = g; hex = bytes })))
 instruction kind.Rpc ws = do
   g ← word_at name_of ws 1
   s ← word_at session_of ws 2
   bytes ← word_at hex_of ws 3
-  Ok (Do (Rpc g s bytes))
+  Ok (Do (Rpc (record { g = g; session = s; hex = bytes })))
 instruction kind.Hangup ws = do
   g ← word_at name_of ws 1
   s ← word_at session_of ws 2
-  Ok (Do (Hangup g s))
+  Ok (Do (Hangup (record { g = g; session = s })))
+instruction kind.Show ws = do
+  g ← word_at name_of ws 1
+  Ok (Do (Show (record { g = g })))
 instruction kind.End ws = Ok End
 
 -- ---- a line

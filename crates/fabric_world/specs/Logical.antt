@@ -1,20 +1,17 @@
--- The logical networks: where a frame is to be delivered. There are no VNIs, packets or tunnels here.
-use Rattle.std.specs.Prelude.{◌≡◌, ◌≢◌, ◌⊎◌, Bool, false, ◌==◌, ◌%◌, List, [], ◌∷◌, map, take, drop, slice_index}
+-- The logical networks: where a frame is to be delivered. There are no tunnels, packets or VNIs here.
+use Rattle.std.specs.Prelude.{◌≡◌, ◌≢◌, ◌⊎◌, ℕ, Bool, false, ◌==◌, ◌%◌, List, [], map, take, drop, slice_index}
 use Rattle.std.specs.List.{flat_map}
 use Rattle.vtep_base.specs.Reading.{Bytes}
 use Rattle.vtep_base.specs.declared.bindings.Binding.{Binding}
 use Rattle.ether_frames.specs.Frames.{Carries, tagged}
-use Rattle.fabric_world.specs.World.{World, Site}
-
--- x is among the members of the list
-abbrev pub IsIn : {A : Type 0} → A → List A → Type 0
-IsIn x [] = ⊥
-IsIn x (y ∷ ys) = (x ≡ y) ⊎ IsIn x ys
-
--- no member stands twice
-abbrev pub EachOnce : {A : Type 0} → List A → Type 0
-EachOnce [] = Unit {0}
-EachOnce (x ∷ xs) = (IsIn x xs → ⊥) × EachOnce xs
+use Rattle.vtep_schema.specs.declared.Table.TheVariants.{LogicalSwitch}
+use Rattle.vtep_schema.specs.declared.Column.TheVariants.{LogicalName}
+use Rattle.vtep_rows.specs.Rows.{Rows}
+use Rattle.forward_program.specs.Built as built
+use Rattle.forward_program.specs.Built.{IsIn}
+use Rattle.vtep_gateway.specs.Gateway.{Gateway}
+use Rattle.vtep_gateway.specs.Show.{row_name}
+use Rattle.fabric_world.specs.World.{World}
 
 -- finite sets, as lists of their members
 pub record Logical : Type 0 where
@@ -47,14 +44,22 @@ pub record DeliversOn (l : Logical) (s : Bytes) (b : Binding) (inner : Bytes) (c
 abbrev pub Delivers : Logical → Binding → Bytes → Binding → Bytes → Type 0
 Delivers l b bytes c out = (s : Bytes) × (inner : Bytes) × Carries bytes b.vlan inner × DeliversOn l s b inner c × (out ≡ tagged c.vlan inner)
 
--- ---- read off a state
+-- ---- read off the gateways of a fabric
 
-abbrev pub member : Binding × Bytes → Bytes × Binding
-member e = (e.1, e.0)
+-- the name of a switch, in its row of Logical_Switch
+abbrev pub switch_of : Rows → ℕ → Bytes
+switch_of r switch = row_name r LogicalSwitch LogicalName switch
 
-abbrev pub members : Bytes × Site → List (Bytes × Binding)
-members e = map member e.1.installed
+-- what a binding in the rows of a gateway is in the fabric
+abbrev pub place : Bytes → built.Binding → Binding
+place g c = record { gateway = g; port = c.port; vlan = c.vlan }
 
--- the installed bindings, and no owners
+abbrev pub member : Bytes → Rows → built.Binding → Bytes × Binding
+member g r c = (switch_of r c.switch, place g c)
+
+abbrev pub members : Bytes × Gateway → List (Bytes × Binding)
+members e = map (member e.0 e.1.vtep.rows) (built.bindings e.1.vtep.rows)
+
+-- the bindings of the rows, and no owners
 abbrev pub logical_of : World → Logical
-logical_of w = record { bindings = flat_map members w.sites.list; owners = [] }
+logical_of w = record { bindings = flat_map members w.gateways.list; owners = [] }

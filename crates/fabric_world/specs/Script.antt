@@ -14,10 +14,10 @@ use Rattle.fabric_world.specs.declared.Refusal.{Refusal}
 use Rattle.fabric_world.specs.declared.Instruction.{Instruction}
 use Rattle.fabric_world.specs.declared.Instruction.TheVariants.{Do, End}
 use Rattle.fabric_world.specs.declared.Fault.{Fault}
-use Rattle.fabric_world.specs.declared.Fault.TheVariants.{Unknown, Repeated, Limit, Use}
 use Rattle.vtep_base.specs.Reading.{same_bytes}
 use Rattle.fabric_world.specs.Lines.{read_line, read_packet, column_at}
-use Rattle.fabric_world.specs.World.{World, start, fault, step, outputs, outputs_text, packet_text}
+use Rattle.fabric_world.specs.Outputs.{outputs_text, packet_text}
+use Rattle.fabric_world.specs.World.{World, Outcome, start, run}
 
 -- ---- one line after another
 
@@ -40,21 +40,15 @@ silent stage = record { text = []; stage = stage }
 abbrev pub refused : ℕ → ℕ → LineReason → Played
 refused n column why = silent (Stopped n (record { column = column; reason = why }))
 
--- a reason of the fabric, at its word
-abbrev pub refused_by : ℕ → List Word → Fault → Played
-refused_by n ws (Unknown place) = refused n (column_at ws place) reason.Unknown
-refused_by n ws (Repeated place) = refused n (column_at ws place) reason.Repeated
-refused_by n ws Limit = refused n (column_at ws 0) reason.Limit
-refused_by n ws Use = refused n (column_at ws 0) reason.Use
-
-abbrev pub unless_fault : ℕ → List Word → Option Fault → Played → Played
-unless_fault n ws None p = p
-unless_fault n ws (Some why) p = refused_by n ws why
+-- a line was run, or it is refused at its word
+abbrev pub ran : ℕ → List Word → Result Outcome Fault → Played
+ran n ws (Ok r) = record { text = outputs_text r.output; stage = Going (n + 1) r.world }
+ran n ws (Err why) = refused n (column_at ws why.word) why.reason
 
 abbrev pub run_instruction : ℕ → World → List Word → Result Instruction Refusal → Played
 run_instruction n w ws (Err why) = silent (Stopped n why)
 run_instruction n w ws (Ok End) = silent Over
-run_instruction n w ws (Ok (Do line)) = unless_fault n ws (fault w line) (record { text = outputs_text (outputs w line); stage = Going (n + 1) (step w line) })
+run_instruction n w ws (Ok (Do line)) = ran n ws (run w line)
 
 -- the first line with words is `fabric 1`
 abbrev pub is_opening : List Word → Bool

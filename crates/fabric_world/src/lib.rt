@@ -2,10 +2,11 @@
 //! with empty bodies whose contracts are the laws, and the types of data that the code shares with the definitions.
 #![tactic(auto)]
 
-ghost use Rattle.fabric_world.specs.Delivery.{DeliversInstalled};
+ghost use Rattle.fabric_world.specs.Delivery.{DeliversBound, SwitchesAreRows};
 ghost use Rattle.fabric_world.specs.Pieces.{CutsDoNotMatter};
+ghost use Rattle.fabric_world.specs.ReadLines.{ReadLinesAreLines};
 
-use vtep_base::{Binding, Bytes, Ipv4, LineReason, Mode, Name, Vni};
+use vtep_base::{Bytes, Ipv4, LineReason, Mode, Name, Vlan, Vni};
 
 /// Where a line is refused, and why. Columns count bytes from 1.
 #[derive(Clone, Copy, Debug, PartialEq, Eq)]
@@ -27,52 +28,102 @@ pub enum Kind {
     Underlay,
     Rpc,
     Hangup,
+    Show,
     End,
+}
+
+/// `gateway g ip`: a gateway of this name and tunnel address comes.
+#[derive(Clone, Copy, Debug)]
+pub struct GatewayLine {
+    pub g: Name,
+    pub ip: Ipv4,
+}
+
+/// `port g p`: a port comes to a gateway.
+#[derive(Clone, Copy, Debug)]
+pub struct PortLine {
+    pub g: Name,
+    pub p: Name,
+}
+
+/// `unport g p`: a port goes from a gateway.
+#[derive(Clone, Copy, Debug)]
+pub struct UnportLine {
+    pub g: Name,
+    pub p: Name,
+}
+
+/// `frame g p hex`: a frame enters at a port, and the packets that it makes are carried at once.
+#[derive(Debug, Drop)]
+pub struct FrameLine {
+    pub g: Name,
+    pub p: Name,
+    pub hex: Bytes,
+}
+
+/// `underlay g hex`: a packet comes to a gateway from the underlay.
+#[derive(Debug, Drop)]
+pub struct UnderlayLine {
+    pub g: Name,
+    pub hex: Bytes,
+}
+
+/// `rpc g session hex`: bytes come from a session of the gateway's database. The session is at least 1.
+#[derive(Debug, Drop)]
+pub struct RpcLine {
+    pub g: Name,
+    pub session: u32,
+    pub hex: Bytes,
+}
+
+/// `hangup g session`: a session ends. It is at least 1.
+#[derive(Clone, Copy, Debug)]
+pub struct HangupLine {
+    pub g: Name,
+    pub session: u32,
+}
+
+/// `settle`: the intent is written into the gateways' tables.
+#[derive(Clone, Copy, Debug)]
+pub struct SettleLine;
+
+/// `show g`: the forwarding state of a gateway is written.
+#[derive(Clone, Copy, Debug)]
+pub struct ShowLine {
+    pub g: Name,
+}
+
+/// What an operator wants.
+#[derive(Clone, Copy, Debug)]
+pub enum Intent {
+    /// `switch s vni mode`: a logical switch.
+    Switch {
+        name: Name,
+        vni: Vni,
+        mode: Mode,
+    },
+    /// `bind s g p vlan`: a VLAN of a port belongs to a switch. The port may be still to come.
+    Bind {
+        switch: Name,
+        gateway: Name,
+        port: Name,
+        vlan: Vlan,
+    },
 }
 
 /// What a line says.
 #[derive(Debug, Drop)]
 pub enum Line {
-    Gateway {
-        name: Name,
-        ip: Ipv4,
-    },
-    Port {
-        gateway: Name,
-        port: Name,
-    },
-    Unport {
-        gateway: Name,
-        port: Name,
-    },
-    Switch {
-        name: Name,
-        network: Network,
-    },
-    Bind {
-        switch: Name,
-        binding: Binding,
-    },
-    Settle,
-    Frame {
-        gateway: Name,
-        port: Name,
-        bytes: Bytes,
-    },
-    Underlay {
-        gateway: Name,
-        bytes: Bytes,
-    },
-    /// Bytes come from a session of the gateway's database.
-    Rpc {
-        gateway: Name,
-        session: u32,
-        bytes: Bytes,
-    },
-    Hangup {
-        gateway: Name,
-        session: u32,
-    },
+    Gateway(GatewayLine),
+    Port(PortLine),
+    Unport(UnportLine),
+    Intend(Intent),
+    Frame(FrameLine),
+    Underlay(UnderlayLine),
+    Rpc(RpcLine),
+    Hangup(HangupLine),
+    Settle(SettleLine),
+    Show(ShowLine),
 }
 
 /// A line that is run, or the end of the script.
@@ -98,22 +149,27 @@ pub struct Network {
     pub mode: Mode,
 }
 
-/// Why the fabric refuses a line. A word has its place in the line, from 0.
+/// Why the fabric refuses a line: the reason, and the place of its word in the line, from 0.
 #[derive(Clone, Copy, Debug, PartialEq, Eq)]
-pub enum Fault {
-    Unknown(usize),
-    Repeated(usize),
-    Limit,
-    Use,
+pub struct Fault {
+    pub word: usize,
+    pub reason: LineReason,
 }
-
-/// A law: in every state that accepted lines lead to, a frame that enters at an installed binding leaves exactly where its
-/// switch delivers it, each once and in order.
-pub fn delivers_installed()
-    ensures { DeliversInstalled }
-{}
 
 /// A law: a script that is taken piece by piece runs as its whole text does, wherever it is cut.
 pub fn cuts_do_not_matter()
     ensures { CutsDoNotMatter }
+{}
+
+/// A law: in every state that lines lead to, where there is one gateway and no row of Ucast_Macs_Remote, a frame that enters at a
+/// binding of the rows leaves exactly where its switch delivers it, each once and in order. Bindings are of one switch exactly where
+/// they name one row of Logical_Switch.
+pub fn delivers_bound()
+    ensures delivers { DeliversBound }
+    ensures rows { SwitchesAreRows }
+{}
+
+/// A law: each line that is read of a text has values in the ranges of their types, and `delivers_bound` speaks of such lines.
+pub fn read_lines_are_lines()
+    ensures { ReadLinesAreLines }
 {}

@@ -1,0 +1,76 @@
+-- What the operator wants, and how a line of the intent changes it.
+use Rattle.std.specs.Prelude.{ℕ, ⊤, Bool, false, true, not, ◌==◌, nat_le, if◌then◌else◌, Result, Ok, Err, refl}
+use Rattle.std.specs.Coded.{Coded, code_by, coded×, coded_ℕ, coded_list}
+use Rattle.std.specs.List.{list_any}
+use Rattle.std.specs.Ordering.{nat_cmp, ordering_then}
+use Rattle.std.specs.Cmp.Lexicographic.{slice_cmp}
+use Rattle.std.specs.declared.cmp.Ordering.{Ordering}
+use Rattle.vtep_base.specs.Chains.{◌>>=◌}
+use Rattle.vtep_base.specs.Reading.{Bytes}
+use Rattle.vtep_base.specs.Maps as maps
+use Rattle.vtep_base.specs.Maps.{Map}
+use Rattle.vtep_base.specs.declared.answers.Mode.{Mode}
+use Rattle.vtep_base.specs.declared.answers.Mode.TheVariants.{Source, Service}
+use Rattle.vtep_base.specs.declared.answers.LineReason.{LineReason}
+use Rattle.vtep_base.specs.declared.answers.LineReason.TheVariants.{Unknown, Repeated, Limit, Use}
+use Rattle.vtep_base.specs.contracts.bindings.Binding as binding
+use Rattle.vtep_base.specs.declared.bindings.Binding.{Binding}
+use Rattle.fabric_world.specs.contracts.Network as network
+use Rattle.fabric_world.specs.declared.Fault.{Fault}
+use Rattle.fabric_world.specs.declared.Intent.{Intent}
+use Rattle.fabric_world.specs.declared.Intent.TheVariants.{Switch, Bind}
+use Rattle.fabric_world.specs.declared.Network.{Network}
+
+abbrev pub bytes_cmp : Bytes → Bytes → Ordering
+bytes_cmp = slice_cmp nat_cmp
+
+-- by gateway, port and VLAN
+abbrev pub binding_cmp : Binding → Binding → Ordering
+binding_cmp a b = ordering_then (bytes_cmp a.gateway b.gateway) (ordering_then (bytes_cmp a.port b.port) (nat_cmp a.vlan b.vlan))
+
+-- the switches by name, and the bindings with the names of their switches
+pub record Intention : Type 0 where
+  pub switches : Map bytes_cmp Network
+  pub bindings : Map binding_cmp Bytes
+
+abbrev pub intention_code : Coded Intention
+intention_code =
+    code_by (Map bytes_cmp Network × Map binding_cmp Bytes)
+    (coded× (maps.code (coded_list coded_ℕ) (network.the_row).coded) (maps.code (binding.the_row).coded (coded_list coded_ℕ)))
+    (λ i. (i.switches, i.bindings)) (λ p. record { switches = p.0; bindings = p.1 }) (λ _. refl)
+
+-- ---- refusals
+
+-- a line is refused at its word of this place
+abbrev pub refuse : {A : Type 0} → ℕ → LineReason → Result A Fault
+refuse place why = Err (record { word = place; reason = why })
+
+abbrev pub refuse_if : Bool → ℕ → LineReason → Result ⊤ Fault
+refuse_if holds place why = if holds then refuse place why else Ok tt
+
+-- ---- lines
+
+abbrev pub has_vni : ℕ → Bytes × Network → Bool
+has_vni vni e = e.1.vni == vni
+
+abbrev pub is_service : Mode → Bool
+is_service Source = false
+is_service Service = true
+
+-- how many switches there may be
+abbrev pub most_switches : ℕ
+most_switches = 1024
+
+-- what is wanted after a line; `knows` tells of a name whether it is that of a gateway
+abbrev pub intended : (Bytes → Bool) → Intention → Intent → Result Intention Fault
+intended knows i (Switch s vni mode) = do
+  known ← refuse_if (maps.has i.switches s) 1 Repeated
+  taken ← refuse_if (list_any (has_vni vni) i.switches.list) 2 Repeated
+  full ← refuse_if (nat_le most_switches (maps.size i.switches)) 0 Limit
+  replicates ← refuse_if (is_service mode) 0 Use
+  Ok (record i { switches = maps.insert i.switches s (record { vni = vni; mode = mode }) })
+intended knows i (Bind s g p vlan) = do
+  switch ← refuse_if (not (maps.has i.switches s)) 1 Unknown
+  gateway ← refuse_if (not (knows g)) 2 Unknown
+  bound ← refuse_if (maps.has i.bindings (record { gateway = g; port = p; vlan = vlan })) 3 Repeated
+  Ok (record i { bindings = maps.insert i.bindings (record { gateway = g; port = p; vlan = vlan }) s })

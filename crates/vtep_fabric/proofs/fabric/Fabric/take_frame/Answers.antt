@@ -1,0 +1,24 @@
+use Rattle.std.proofs.Common.{[], refl, sym, ap, subst, ◌∙◌}
+use Rattle.std.specs.Prelude.{OnOk}
+use Rattle.vtep_base.specs.Reading.{Bytes}
+use Rattle.vtep_gateway.specs.declared.Event.{Event}
+use Rattle.vtep_gateway.specs.declared.Event.TheVariants as event
+use Rattle.fabric_world.specs.declared.Line.TheVariants as lines
+use Rattle.fabric_world.specs.Happenings.{event_at}
+use Rattle.fabric_world.specs.World.{World}
+use Rattle.vtep_fabric.specs.Fabrics.{DoesHappen, Does}
+use Rattle.vtep_fabric.proofs.LineEvents.{follows, does}
+use Rattle.vtep_fabric.proofs.fabric.Fabric.take_frame.Goals as goal
+
+pub returns : goal.returns
+returns c =
+    let w : World = record { gateways = c.self.inside.roster; intention = c.self.inside.intention; untouched = c.self.inside.untouched } in
+    let line = lines.Frame c.args.line.now in
+    let g = c.args.line.now.g in
+    let taken : Bytes → Event = λ bytes. event.Frame c.args.line.now.p bytes in
+    let e = taken c.in_ok-from_slice.field-0 in
+    let new = c.event_at.new.self in
+    let text = c.event_at.new.text in
+    let ok = subst (λ t. OnOk c.event_at.result (DoesHappen (event_at w.gateways g e) new t text)) c.requires c.event_at.ensures.ok in
+    subst (λ h. Does h line (record { world = record w { gateways = new }; stopped = c.self.inside.stopped }) text c.event_at.result) c.self.view_is
+    (does w c.self.inside.stopped new line g e text c.event_at.result (λ v. ap (λ bytes. follows v (event_at v.gateways g (taken bytes))) (sym (c.in_ok-from_slice.ensures ∙ c.as_slice.ensures))) ok c.event_at.ensures.refused)
