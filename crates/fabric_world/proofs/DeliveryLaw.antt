@@ -122,7 +122,7 @@ lost_others r (Some vni) ips a = a
 
 module _ (r : Rows) (settled : IsSettled r) (plain : rows_of UcastMacsRemote r ≡ []) (c : built.Binding) (c_in : IsIn c (bindings r)) (bytes inner : Bytes) (carries : Carries bytes c.vlan inner) where
   abbrev facts : Ways
-  facts = ways_of (built.built r)
+  facts = ways_of (built.built r [])
 
   abbrev entering : Port
   entering = (c.port, c.vlan)
@@ -180,7 +180,7 @@ module _ (r : Rows) (settled : IsSettled r) (plain : rows_of UcastMacsRemote r �
   -- where it goes, as addresses
   go_others : AreOthers r addresses
   go_others =
-      let lists = λ (group : Option ℕ). first_others r (filter_map (flood_by c.switch group) (built.built r)) (λ ips is. floods_others r c.switch ips (flooded_from r plain c.switch group ips is)) in
+      let lists = λ (group : Option ℕ). first_others r (filter_map (flood_by c.switch group) (built.built r [])) (λ ips is. floods_others r c.switch ips (flooded_from r plain c.switch group ips is)) in
       by itself (tunnelled_others r vni (flooded facts c.switch dst)
       (either_others r (group_targets facts c.switch dst) (facts.flood c.switch None) (if_others r (is_group dst) (facts.flood c.switch (Some dst)) (lists (Some dst))) (lists None)))
     where
@@ -189,7 +189,7 @@ module _ (r : Rows) (settled : IsSettled r) (plain : rows_of UcastMacsRemote r �
       by false a = a
 
   go_sorted : AreSorted ports
-  go_sorted = if_sorted itself others (but_sorted entering (facts.ports c.switch) (ordered_sorted (filter_map (port_by c.switch) (built.built r))))
+  go_sorted = if_sorted itself others (but_sorted entering (facts.ports c.switch) (ordered_sorted (filter_map (port_by c.switch) (built.built r []))))
 
   -- ---- in a fabric of this gateway
 
@@ -286,7 +286,7 @@ module _ (r : Rows) (settled : IsSettled r) (plain : rows_of UcastMacsRemote r �
     leaves_elsewhere : itself ≡ false → (q : Port) → IsIn q others → Delivers (logical_of w) (place g c) bytes (at_port g q) (tagged q.1 inner)
     leaves_elsewhere away q is =
         let f = in_filter (λ p. not (same_port p entering)) q (facts.ports c.switch) is in
-        let m : Binds r q.0 q.1 c.switch = told_port r plain c.switch q (ordered_is q (filter_map (port_by c.switch) (built.built r)) f.1) in (
+        let m : Binds r q.0 q.1 c.switch = told_port r plain c.switch q (ordered_is q (filter_map (port_by c.switch) (built.built r [])) f.1) in (
           switch_of r c.switch,
           inner,
           carries,
@@ -312,7 +312,7 @@ module _ (r : Rows) (settled : IsSettled r) (plain : rows_of UcastMacsRemote r �
         let one : c.switch ≡ b.0.switch = one_switch r settled.rows settled.sound plain c b.0 c_in b.1 (ap (λ (y : Binding). y.port) b.3) (ap (λ (y : Binding). y.vlan) b.3) in
         let of : d.0.switch ≡ c.switch = names_are_rows r settled.rows settled.sound d.0 c d.1 c_in (sym d.2 ∙ b.2 ∙ ap (switch_of r) (sym one)) in
         let q : Port = (d.0.port, d.0.vlan) in
-        let there : IsIn q (facts.ports c.switch) = is_ordered q (filter_map (port_by c.switch) (built.built r)) (port_told r plain c.switch d.0 d.1 of) in
+        let there : IsIn q (facts.ports c.switch) = is_ordered q (filter_map (port_by c.switch) (built.built r [])) (port_told r plain c.switch d.0 d.1 of) in
         let other : same_port q entering ≡ false = false_by (same_port q entering) (λ e. on.elsewhere (d.3 ∙ ap (at_port g) (port_same q entering e))) in
         let kept : IsIn q others = filter_in (λ p. not (same_port p entering)) q (facts.ports c.switch) (not_false (same_port q entering) other) there in
         let all : IsIn q ports = subst (λ b. IsIn q (cond b [] others)) (sym away) kept in

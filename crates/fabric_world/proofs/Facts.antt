@@ -16,7 +16,7 @@ use Rattle.forward_program.specs.declared.facts.Fact.{Fact}
 use Rattle.forward_program.specs.declared.facts.Fact.TheVariants as fact
 use Rattle.forward_program.specs.declared.facts.Place.{Place}
 use Rattle.forward_program.specs.Readings.{remote_of, group_of}
-use Rattle.forward_program.specs.Built.{IsIn, Binding, bindings, is_bound, bind_fact, vni_fact, remote_fact, mode_at, set_addresses, flood_to, flood_fact, built}
+use Rattle.forward_program.specs.Built.{IsIn, Binding, bindings, is_bound, bind_fact, vni_fact, unlearnt_fact, learnt_fact, mode_at, set_addresses, flood_to, flood_fact, built}
 use Rattle.forward_program.specs.Joins.{Port}
 use Rattle.forward_program.specs.Hop.{same_port, bound_by, place_by, flood_by, port_by, ways_of}
 use Rattle.forward_program.proofs.InLists.{in_front, in_back, in_either, in_map, map_in, in_picked, picked_in}
@@ -52,8 +52,11 @@ module _ (r : Rows) where
   abbrev bound_facts : List Fact
   bound_facts = map bind_fact (bindings r)
 
+  abbrev learnt_facts : List Fact
+  learnt_facts = map learnt_fact []
+
   abbrev remote_facts : List Fact
-  remote_facts = filter_map (λ (e : ℕ × Contents). option_and_then (remote_fact r) (remote_of e.1)) (rows_of UcastMacsRemote r)
+  remote_facts = filter_map (λ (e : ℕ × Contents). option_and_then (unlearnt_fact r []) (remote_of e.1)) (rows_of UcastMacsRemote r)
 
   abbrev flood_facts : List Fact
   flood_facts = filter_map (λ (e : ℕ × Contents). option_and_then (flood_fact r) (group_of e.1)) (rows_of McastMacsRemote r)
@@ -62,55 +65,60 @@ module _ (r : Rows) where
   flood_made s group set [] f is e = absurd (cc)
   flood_made s group set (ip ∷ ips) f is e = subst (Made r) (same_some (fact.Flood s group (ip ∷ ips)) f e) (record { set = set; addresses_are = is })
 
-  pub bind_built : (c : Binding) → IsIn c (bindings r) → IsIn (bind_fact c) (built r)
+  pub bind_built : (c : Binding) → IsIn c (bindings r) → IsIn (bind_fact c) (built r [])
   bind_built c there =
-      in_front (bind_fact c) ((networks ++ bound_facts) ++ remote_facts) flood_facts (in_front (bind_fact c) (networks ++ bound_facts) remote_facts (in_back (bind_fact c) networks bound_facts (map_in bind_fact c (bindings r) there)))
+      in_front (bind_fact c) (((networks ++ bound_facts) ++ learnt_facts) ++ remote_facts) flood_facts
+      (in_front (bind_fact c) ((networks ++ bound_facts) ++ learnt_facts) remote_facts
+      (in_front (bind_fact c) (networks ++ bound_facts) learnt_facts (in_back (bind_fact c) networks bound_facts (map_in bind_fact c (bindings r) there))))
 
   module _ (plain : rows_of UcastMacsRemote r ≡ []) where
-    pub made : (f : Fact) → IsIn f (built r) → Made r f
-    made f is = elim (in_either f ((networks ++ bound_facts) ++ remote_facts) flood_facts is) [
+    pub made : (f : Fact) → IsIn f (built r []) → Made r f
+    made f is = elim (in_either f (((networks ++ bound_facts) ++ learnt_facts) ++ remote_facts) flood_facts is) [
       | inr in_floods ↦
           let e = in_picked (λ (e : ℕ × Contents). option_and_then (flood_fact r) (group_of e.1)) f (rows_of McastMacsRemote r) in_floods in
           let x = some_of (flood_fact r) (group_of e.0.1) f e.2 in
           let so = if_so (is_bound r x.0.switch) (flood_to x.0.switch x.0.group (targets (mode_at r x.0.switch) (set_addresses r x.0.set))) f x.2 in
           flood_made x.0.switch x.0.group x.0.set (targets (mode_at r x.0.switch) (set_addresses r x.0.set)) f refl so.1
-      | inl front ↦ elim (in_either f (networks ++ bound_facts) remote_facts front) [
+      | inl front ↦ elim (in_either f ((networks ++ bound_facts) ++ learnt_facts) remote_facts front) [
         | inr in_remotes ↦
-            absurd (subst (λ (es : List (ℕ × Contents)). IsIn f (filter_map (λ (e : ℕ × Contents). option_and_then (remote_fact r) (remote_of e.1)) es)) plain in_remotes)
-        | inl first ↦ elim (in_either f networks bound_facts first) [
-          | inr in_binds ↦
-              let b = in_map bind_fact f (bindings r) in_binds in
-              subst (Made r) (sym b.2) (record { of = b.0; there = b.1; port_is = refl; vlan_is = refl; switch_is = refl })
-          | inl in_networks ↦
-              let e = in_picked (vni_fact r) f (rows_of LogicalSwitch r) in_networks in
-              let so = if_so (is_bound r e.0.0) (option_map (λ vni. fact.Vni vni e.0.0) (number_at e.0.1 LogicalTunnelKey)) f e.2 in
-              let n = map_of (λ vni. fact.Vni vni e.0.0) (number_at e.0.1 LogicalTunnelKey) f so.1 in
-              subst (Made r) (sym n.2) tt
+            absurd (subst (λ (es : List (ℕ × Contents)). IsIn f (filter_map (λ (e : ℕ × Contents). option_and_then (unlearnt_fact r []) (remote_of e.1)) es)) plain in_remotes)
+        | inl before ↦ elim (in_either f (networks ++ bound_facts) learnt_facts before) [
+          | inr in_learnt ↦ absurd in_learnt
+          | inl first ↦ elim (in_either f networks bound_facts first) [
+            | inr in_binds ↦
+                let b = in_map bind_fact f (bindings r) in_binds in
+                subst (Made r) (sym b.2) (record { of = b.0; there = b.1; port_is = refl; vlan_is = refl; switch_is = refl })
+            | inl in_networks ↦
+                let e = in_picked (vni_fact r) f (rows_of LogicalSwitch r) in_networks in
+                let so = if_so (is_bound r e.0.0) (option_map (λ vni. fact.Vni vni e.0.0) (number_at e.0.1 LogicalTunnelKey)) f e.2 in
+                let n = map_of (λ vni. fact.Vni vni e.0.0) (number_at e.0.1 LogicalTunnelKey) f so.1 in
+                subst (Made r) (sym n.2) tt
+          ]
         ]
       ]
     ]
 
     -- nobody says where an address is
-    no_place : (s mac : ℕ) → (ways_of (built r)).place s mac ≡ None
-    no_place s mac = sym (first_picked (place_by s mac) (built r) None there back)
+    no_place : (s mac : ℕ) → (ways_of (built r [])).place s mac ≡ None
+    no_place s mac = sym (first_picked (place_by s mac) (built r []) None there back)
       where
-        there : (f : Fact) (y : Place) → IsIn f (built r) → place_by s mac f ≡ Some y → None ≡ Some y
+        there : (f : Fact) (y : Place) → IsIn f (built r []) → place_by s mac f ≡ Some y → None ≡ Some y
         there (fact.Mac switch address place) y is e = absurd (made (fact.Mac switch address place) is)
         there (fact.Vni vni switch) y is e = absurd (cc)
         there (fact.Bind port vlan switch lists) y is e = absurd (cc)
         there (fact.Flood switch group addresses) y is e = absurd (cc)
 
-        back : (y : Place) → None ≡ Some y → (f : Fact) × IsIn f (built r) × (place_by s mac f ≡ Some y)
+        back : (y : Place) → None ≡ Some y → (f : Fact) × IsIn f (built r []) × (place_by s mac f ≡ Some y)
         back y e = absurd (cc)
 
-    pub nowhere_known : (s dst : ℕ) (b : Bool) → cond b None ((ways_of (built r)).place s dst) ≡ None
+    pub nowhere_known : (s dst : ℕ) (b : Bool) → cond b None ((ways_of (built r [])).place s dst) ≡ None
     nowhere_known s dst true = refl
     nowhere_known s dst false = no_place s dst
 
     -- ---- the bindings of a switch
 
-    pub told_port : (s : ℕ) (q : Port) → IsIn q (filter_map (port_by s) (built r)) → Binds r q.0 q.1 s
-    told_port s q is = let f = in_picked (port_by s) q (built r) is in by f.0 (made f.0 f.1) f.2
+    pub told_port : (s : ℕ) (q : Port) → IsIn q (filter_map (port_by s) (built r [])) → Binds r q.0 q.1 s
+    told_port s q is = let f = in_picked (port_by s) q (built r []) is in by f.0 (made f.0 f.1) f.2
       where
         by : (f : Fact) → Made r f → port_by s f ≡ Some q → Binds r q.0 q.1 s
         by (fact.Bind port vlan switch lists) m e =
@@ -120,14 +128,14 @@ module _ (r : Rows) where
         by (fact.Mac switch mac place) m e = absurd m
         by (fact.Flood switch group addresses) m e = absurd (cc)
 
-    pub port_told : (s : ℕ) (c : Binding) → IsIn c (bindings r) → c.switch ≡ s → IsIn (c.port, c.vlan) (filter_map (port_by s) (built r))
+    pub port_told : (s : ℕ) (c : Binding) → IsIn c (bindings r) → c.switch ≡ s → IsIn (c.port, c.vlan) (filter_map (port_by s) (built r []))
     port_told s c there same =
-        picked_in (port_by s) (c.port, c.vlan) (bind_fact c) (built r) (bind_built c there) (passes (c.switch == s) (c.port, c.vlan) (ap (λ n. n == s) same ∙ number_itself s))
+        picked_in (port_by s) (c.port, c.vlan) (bind_fact c) (built r []) (bind_built c there) (passes (c.switch == s) (c.port, c.vlan) (ap (λ n. n == s) same ∙ number_itself s))
 
     -- ---- where frames that are not for one address go
 
-    pub flooded_from : (s : ℕ) (group : Option ℕ) (ips : List ℕ) → IsIn ips (filter_map (flood_by s group) (built r)) → Floods r s ips
-    flooded_from s group ips is = let f = in_picked (flood_by s group) ips (built r) is in by f.0 (made f.0 f.1) f.2
+    pub flooded_from : (s : ℕ) (group : Option ℕ) (ips : List ℕ) → IsIn ips (filter_map (flood_by s group) (built r [])) → Floods r s ips
+    flooded_from s group ips is = let f = in_picked (flood_by s group) ips (built r []) is in by f.0 (made f.0 f.1) f.2
       where
         by : (f : Fact) → Made r f → flood_by s group f ≡ Some ips → Floods r s ips
         by (fact.Flood switch key addresses) m e =
@@ -143,10 +151,10 @@ module _ (r : Rows) where
     pub one_switch : (b c : Binding) → IsIn b (bindings r) → IsIn c (bindings r) → b.port ≡ c.port → b.vlan ≡ c.vlan → b.switch ≡ c.switch
     one_switch b c b_in c_in port vlan = (one_binding r rows sound b c (binding_of r rows sound b b_in) (binding_of r rows sound c c_in) port vlan).0
 
-    pub bound_is : (c : Binding) → IsIn c (bindings r) → (ways_of (built r)).bound (c.port, c.vlan) ≡ Some c.switch
-    bound_is c c_in = sym (first_picked (bound_by (c.port, c.vlan)) (built r) (Some c.switch) there back)
+    pub bound_is : (c : Binding) → IsIn c (bindings r) → (ways_of (built r [])).bound (c.port, c.vlan) ≡ Some c.switch
+    bound_is c c_in = sym (first_picked (bound_by (c.port, c.vlan)) (built r []) (Some c.switch) there back)
       where
-        there : (f : Fact) (y : ℕ) → IsIn f (built r) → bound_by (c.port, c.vlan) f ≡ Some y → Some c.switch ≡ Some y
+        there : (f : Fact) (y : ℕ) → IsIn f (built r []) → bound_by (c.port, c.vlan) f ≡ Some y → Some c.switch ≡ Some y
         there (fact.Bind port vlan switch lists) y is e =
             let h = passed (same_port (c.port, c.vlan) (port, vlan)) switch y e in
             let p : (c.port, c.vlan) ≡ (port, vlan) = port_same (c.port, c.vlan) (port, vlan) h.0 in
@@ -156,7 +164,7 @@ module _ (r : Rows) where
         there (fact.Mac switch mac place) y is e = absurd (cc)
         there (fact.Flood switch group addresses) y is e = absurd (cc)
 
-        back : (y : ℕ) → Some c.switch ≡ Some y → (f : Fact) × IsIn f (built r) × (bound_by (c.port, c.vlan) f ≡ Some y)
+        back : (y : ℕ) → Some c.switch ≡ Some y → (f : Fact) × IsIn f (built r []) × (bound_by (c.port, c.vlan) f ≡ Some y)
         back y e = (
           bind_fact c,
           bind_built c c_in,

@@ -52,7 +52,7 @@ touched w = record w { untouched = false }
 
 -- the facts of a gateway's forwarding state, as lines
 abbrev pub shown_at : Gateway → Bytes
-shown_at gateway = show_text gateway.vtep.name gateway.vtep.rows (facts_of (shown gateway.vtep.rows))
+shown_at gateway = show_text gateway.vtep.name gateway.vtep.rows (facts_of (shown gateway.vtep.rows []))
 
 -- what a line does
 abbrev pub run : World → Line → Result Outcome Fault

@@ -1,5 +1,5 @@
 -- Where the places of what was are emptied, and then what is is put, the state is that of the rows after.
-use Rattle.std.proofs.Common.{◌≡◌, ◌⊎◌, inl, inr, ℕ, Bool, true, false, Result, Ok, Err, OnOk, List, [], ◌∷◌, Option, Some, None, is_some, refl, sym, ap, ◌∙◌, subst}
+use Rattle.std.proofs.Common.{◌≡◌, ◌⊎◌, inl, inr, ℕ, Bool, true, false, List, [], ◌∷◌, Option, Some, None, is_some, refl, sym, ap, ◌∙◌, subst}
 use Rattle.std.specs.List.{list_all}
 use Rattle.std.specs.Cmp.{first_so, second_so}
 use Rattle.vtep_base.specs.Maps as maps
@@ -16,7 +16,7 @@ use Rattle.forward_program.specs.declared.held.Held.{Held}
 use Rattle.forward_program.specs.Readings.{own_ip}
 use Rattle.forward_program.specs.Built.{IsIn}
 use Rattle.forward_program.specs.Spots.{Entries, spot_total}
-use Rattle.forward_program.specs.Shown.{Entry, row_entries, table_entries, forward_tables, all_entries, shown}
+use Rattle.forward_program.specs.Shown.{Entry, row_entries, table_entries, forward_tables, all_entries, rows_shown}
 use Rattle.forward_program.specs.Follows.{entries_if, entries_before, entries_after, was_row, places, IsCleared}
 use Rattle.forward_program.proofs.InLists.{in_flat, flat_in, in_map, map_in}
 use Rattle.forward_program.proofs.RowsIn.{in_rows}
@@ -150,52 +150,47 @@ module _ (before now : Rows) (sound_before : Sound before) (rows : IsRows now) (
   abbrev staying : List Spot
   staying = places (entries_after own change)
 
-  shown_now : (k : Spot) (h : Held) → IsIn (k, h) (all_entries now) → maps.get (shown now) k ≡ Some h
+  shown_now : (k : Spot) (h : Held) → IsIn (k, h) (all_entries now) → maps.get (rows_shown now) k ≡ Some h
   shown_now k h there = given_at now rows sound k h (listed_given now k h there)
 
-  no_longer : (k : Spot) → IsIn k gone → (IsIn k staying → ⊥) → maps.get (shown now) k ≡ None
-  no_longer k went out = by (maps.get (shown now) k) refl
+  no_longer : (k : Spot) → IsIn k gone → (IsIn k staying → ⊥) → maps.get (rows_shown now) k ≡ None
+  no_longer k went out = by (maps.get (rows_shown now) k) refl
     where
-      by : (o : Option Held) → maps.get (shown now) k ≡ o → o ≡ None
+      by : (o : Option Held) → maps.get (rows_shown now) k ≡ o → o ≡ None
       by None e = refl
       by (Some h) e = absurd (elim (now_from (k, h) (from_entries spot_total spot_exact (all_entries now) k h e)) [
         | inl new ↦ out (map_in (λ (y : Entry). y.0) (k, h) (entries_after own change) new)
         | inr kept ↦ gone_or_kept (k, h) went kept
       ])
 
-  forth : (k : Spot) → (IsIn k gone → ⊥) → (h : Held) → maps.get (shown before) k ≡ Some h → maps.get (shown now) k ≡ Some h
+  forth : (k : Spot) → (IsIn k gone → ⊥) → (h : Held) → maps.get (rows_shown before) k ≡ Some h → maps.get (rows_shown now) k ≡ Some h
   forth k still h e = elim (before_from (k, h) (from_entries spot_total spot_exact (all_entries before) k h e)) [
     | inl old ↦ absurd (still (map_in (λ (y : Entry). y.0) (k, h) (entries_before own change) old))
     | inr kept ↦ shown_now k h (kept_now (k, h) kept)
   ]
 
-  back : (k : Spot) → (IsIn k gone → ⊥) → (IsIn k staying → ⊥) → (h : Held) → maps.get (shown now) k ≡ Some h → maps.get (shown before) k ≡ Some h
+  back : (k : Spot) → (IsIn k gone → ⊥) → (IsIn k staying → ⊥) → (h : Held) → maps.get (rows_shown now) k ≡ Some h → maps.get (rows_shown before) k ≡ Some h
   back k still out h e = elim (now_from (k, h) (from_entries spot_total spot_exact (all_entries now) k h e)) [
     | inl new ↦ absurd (out (map_in (λ (y : Entry). y.0) (k, h) (entries_after own change) new))
-    | inr kept ↦ by (maps.get (shown before) k) refl (in_has spot_total (all_entries before) maps.empty k h (kept_before (k, h) kept))
+    | inr kept ↦ by (maps.get (rows_shown before) k) refl (in_has spot_total (all_entries before) maps.empty k h (kept_before (k, h) kept))
   ]
     where
-      by : (o : Option Held) → maps.get (shown before) k ≡ o → maps.has (shown before) k ≡ true → maps.get (shown before) k ≡ Some h
+      by : (o : Option Held) → maps.get (rows_shown before) k ≡ o → maps.has (rows_shown before) k ≡ true → maps.get (rows_shown before) k ≡ Some h
       by None was there = let clash : false ≡ true = ap is_some (sym was) ∙ there in cc
       by (Some l) was there = was ∙ sym (forth k still l was) ∙ e
 
-  at_place : (m n p : Entries) → m ≡ shown before → IsCleared m n gone staying → p ≡ put_all n (entries_after own change) → (k : Spot) → maps.get p k ≡ maps.get (shown now) k
-  at_place m n p was cleared put k = by (in_or_not spot_total spot_exact k staying)
+  -- a place of a row that differs is as in the rows after it, and each other place as it was
+  pub at_place : (m n p : Entries) → IsCleared m n gone staying → p ≡ put_all n (entries_after own change) → (k : Spot)
+      → ((IsIn k gone ⊎ IsIn k staying) × (maps.get p k ≡ maps.get (rows_shown now) k)) ⊎ ((IsIn k gone → ⊥) × (IsIn k staying → ⊥) × (maps.get p k ≡ maps.get m k) × (maps.get (rows_shown before) k ≡ maps.get (rows_shown now) k))
+  at_place m n p cleared put k = by (in_or_not spot_total spot_exact k staying)
     where
-      left : (IsIn k staying → ⊥) → (IsIn k gone × (maps.get n k ≡ None)) ⊎ ((IsIn k gone → ⊥) × (maps.get n k ≡ maps.get m k)) → maps.get n k ≡ maps.get (shown now) k
-      left out (inl h) = h.1 ∙ sym (no_longer k h.0 out)
-      left out (inr h) =
-          h.1 ∙ ap (λ (q : Entries). maps.get q k) was ∙ same_options (maps.get (shown before) k) (maps.get (shown now) k) (forth k h.0) (back k h.0 out)
+      left : (IsIn k staying → ⊥) → maps.get p k ≡ maps.get n k → (IsIn k gone × (maps.get n k ≡ None)) ⊎ ((IsIn k gone → ⊥) × (maps.get n k ≡ maps.get m k))
+          → ((IsIn k gone ⊎ IsIn k staying) × (maps.get p k ≡ maps.get (rows_shown now) k)) ⊎ ((IsIn k gone → ⊥) × (IsIn k staying → ⊥) × (maps.get p k ≡ maps.get m k) × (maps.get (rows_shown before) k ≡ maps.get (rows_shown now) k))
+      left out same (inl h) = inl (inl h.0, same ∙ h.1 ∙ sym (no_longer k h.0 out))
+      left out same (inr h) = inr (h.0, out, same ∙ h.1, same_options (maps.get (rows_shown before) k) (maps.get (rows_shown now) k) (forth k h.0) (back k h.0 out))
 
-      by : IsIn k staying ⊎ (IsIn k staying → ⊥) → maps.get p k ≡ maps.get (shown now) k
+      by : IsIn k staying ⊎ (IsIn k staying → ⊥) → ((IsIn k gone ⊎ IsIn k staying) × (maps.get p k ≡ maps.get (rows_shown now) k)) ⊎ ((IsIn k gone → ⊥) × (IsIn k staying → ⊥) × (maps.get p k ≡ maps.get m k) × (maps.get (rows_shown before) k ≡ maps.get (rows_shown now) k))
       by (inl there) =
           let x = put_in spot_total spot_exact (entries_after own change) n k there in
-          ap (λ (q : Entries). maps.get q k) put ∙ x.2 ∙ sym (shown_now k x.0 (after_shown (k, x.0) x.1))
-      by (inr out) = ap (λ (q : Entries). maps.get q k) put ∙ put_out spot_total spot_exact (entries_after own change) n k out ∙ left out (cleared k out)
-
-  pub followed : (m n p : Entries) → m ≡ shown before → IsCleared m n gone staying → p ≡ put_all n (entries_after own change) → p ≡ shown now
-  followed m n p was cleared put = maps.same_map spot_total spot_exact p (shown now) (at_place m n p was cleared put)
-
-  pub ok_followed : {T E : Type 0} (r : Result T E) (m n p : Entries) → m ≡ shown before → IsCleared m n gone staying → OnOk r (p ≡ put_all n (entries_after own change)) → OnOk r (p ≡ shown now)
-  ok_followed (Ok x) m n p was cleared put = followed m n p was cleared put
-  ok_followed (Err e) m n p was cleared put = tt
+          inl (inr there, ap (λ (q : Entries). maps.get q k) put ∙ x.2 ∙ sym (shown_now k x.0 (after_shown (k, x.0) x.1)))
+      by (inr out) = left out (ap (λ (q : Entries). maps.get q k) put ∙ put_out spot_total spot_exact (entries_after own change) n k out) (cleared k out)

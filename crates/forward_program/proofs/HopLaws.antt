@@ -12,6 +12,8 @@ use Rattle.vtep_rows.specs.Row.{number_at, first}
 use Rattle.vtep_rows.specs.Rows.{Rows, IsRows, row_at}
 use Rattle.vtep_rows.specs.Sound.{Sound}
 use Rattle.vtep_rows.proofs.Entries.{same_some, both}
+use Rattle.mac_learning.specs.declared.Learnt.{Learnt}
+use Rattle.mac_learning.specs.Learning.{IsOnce}
 use Rattle.forward_program.specs.declared.spots.Spot.{Spot}
 use Rattle.forward_program.specs.declared.spots.Spot.TheVariants as spot
 use Rattle.forward_program.specs.declared.spots.Part.TheVariants as part
@@ -24,7 +26,8 @@ use Rattle.forward_program.specs.Shown.{shown}
 use Rattle.forward_program.specs.Joins.{Port, Bound, bound_at, of_in, network_at, vni_at, place_at, found_at, flood_at, is_bound_at, fact_at}
 use Rattle.forward_program.specs.Hop.{same_port, bound_by, network_by, vni_by, place_by, flood_by, same_group}
 use Rattle.forward_program.proofs.InLists.{in_picked, picked_in}
-use Rattle.forward_program.proofs.Unique.{at_given, some_of, map_of, bytes_same, bytes_itself}
+use Rattle.forward_program.proofs.Known.{at_known}
+use Rattle.forward_program.proofs.Unique.{some_of, map_of, bytes_same, bytes_itself}
 use Rattle.forward_program.specs.Places.{is_here}
 use Rattle.forward_program.proofs.FactLaws.{said_built, built_said, network_at_row, something}
 use Rattle.forward_program.proofs.JoinLaws.{bound_is, vni_is}
@@ -87,24 +90,24 @@ pub if_so : {A : Type 0} (b : Bool) (o : Option A) (x : A) → if_bound b o ≡ 
 if_so true o x e = (refl, e)
 if_so false o x e = cc
 
-module _ (r : Rows) (rows : IsRows r) (sound : Sound r) where
+module _ (r : Rows) (learnt : List Learnt) (rows : IsRows r) (sound : Sound r) (once : IsOnce learnt) where
   abbrev m : Entries
-  m = shown r
+  m = shown r learnt
 
   -- a fact that is built is said at its own place
-  pub said : (f : Fact) (k : Spot) → IsIn f (built r) → ((j : Spot) → fact_at m j ≡ Some f → j ≡ k) → fact_at m k ≡ Some f
-  said f k is place = let j = built_said r rows sound f is in ap (fact_at m) (sym (place j.0 j.1)) ∙ j.1
+  pub said : (f : Fact) (k : Spot) → IsIn f (built r learnt) → ((j : Spot) → fact_at m j ≡ Some f → j ≡ k) → fact_at m k ≡ Some f
+  said f k is place = let j = built_said r learnt rows sound once f is in ap (fact_at m) (sym (place j.0 j.1)) ∙ j.1
 
-  bind_said : (port : Bytes) (vlan switch : ℕ) (lists : List ℕ) → IsIn (fact.Bind port vlan switch lists) (built r) → option_map (λ (b : Bound). b.switch) (bound_at m (port, vlan)) ≡ Some switch
+  bind_said : (port : Bytes) (vlan switch : ℕ) (lists : List ℕ) → IsIn (fact.Bind port vlan switch lists) (built r learnt) → option_map (λ (b : Bound). b.switch) (bound_at m (port, vlan)) ≡ Some switch
   bind_said port vlan switch lists is =
       let f = said (fact.Bind port vlan switch lists) (spot.Port port vlan) is (λ j e. sym (its_place m j (fact.Bind port vlan switch lists) e)) in
       let b = map_of (λ (b : Bound). fact.Bind port vlan b.switch (acl_rows b.lists)) (bound_at m (port, vlan)) (fact.Bind port vlan switch lists) f in
       ap (option_map (λ (b : Bound). b.switch)) b.1 ∙ ap Some (sym (bind_switch port port vlan vlan switch b.0.switch lists (acl_rows b.0.lists) b.2))
 
-  pub bound_agrees : (p : Port) → option_map (λ (b : Bound). b.switch) (bound_at m p) ≡ first (filter_map (bound_by p) (built r))
-  bound_agrees p = first_picked (bound_by p) (built r) (option_map (λ (b : Bound). b.switch) (bound_at m p)) there back
+  pub bound_agrees : (p : Port) → option_map (λ (b : Bound). b.switch) (bound_at m p) ≡ first (filter_map (bound_by p) (built r learnt))
+  bound_agrees p = first_picked (bound_by p) (built r learnt) (option_map (λ (b : Bound). b.switch) (bound_at m p)) there back
     where
-      there : (f : Fact) (y : ℕ) → IsIn f (built r) → bound_by p f ≡ Some y → option_map (λ (b : Bound). b.switch) (bound_at m p) ≡ Some y
+      there : (f : Fact) (y : ℕ) → IsIn f (built r learnt) → bound_by p f ≡ Some y → option_map (λ (b : Bound). b.switch) (bound_at m p) ≡ Some y
       there (fact.Bind port vlan switch lists) y is e =
           let h = passed (same_port p (port, vlan)) switch y e in
           ap (λ (q : Port). option_map (λ (b : Bound). b.switch) (bound_at m q)) (port_same p (port, vlan) h.0) ∙ bind_said port vlan switch lists is ∙ ap Some h.1
@@ -112,24 +115,24 @@ module _ (r : Rows) (rows : IsRows r) (sound : Sound r) where
       there (fact.Mac switch mac place) y is e = cc
       there (fact.Flood switch group addresses) y is e = cc
 
-      back : (y : ℕ) → option_map (λ (b : Bound). b.switch) (bound_at m p) ≡ Some y → (f : Fact) × IsIn f (built r) × (bound_by p f ≡ Some y)
+      back : (y : ℕ) → option_map (λ (b : Bound). b.switch) (bound_at m p) ≡ Some y → (f : Fact) × IsIn f (built r learnt) × (bound_by p f ≡ Some y)
       back y e =
           let b = map_of (λ (b : Bound). b.switch) (bound_at m p) y e in (
             fact.Bind p.0 p.1 b.0.switch (acl_rows b.0.lists),
-            said_built r rows sound (spot.Port p.0 p.1) (fact.Bind p.0 p.1 b.0.switch (acl_rows b.0.lists)) (ap (option_map (λ (c : Bound). fact.Bind p.0 p.1 c.switch (acl_rows c.lists))) b.1),
+            said_built r learnt rows sound once (spot.Port p.0 p.1) (fact.Bind p.0 p.1 b.0.switch (acl_rows b.0.lists)) (ap (option_map (λ (c : Bound). fact.Bind p.0 p.1 c.switch (acl_rows c.lists))) b.1),
             passes (same_port p p) b.0.switch (port_itself p) ∙ ap Some (sym b.2),
           )
 
-  vni_said : (vni switch : ℕ) → IsIn (fact.Vni vni switch) (built r) → network_at m vni ≡ Some switch
+  vni_said : (vni switch : ℕ) → IsIn (fact.Vni vni switch) (built r learnt) → network_at m vni ≡ Some switch
   vni_said vni switch is =
       let f = said (fact.Vni vni switch) (spot.Vni vni) is (λ j e. sym (its_place m j (fact.Vni vni switch) e)) in
       let s = map_of (fact.Vni vni) (network_at m vni) (fact.Vni vni switch) f in
       s.1 ∙ ap Some (sym (vni_switch vni vni switch s.0 s.2))
 
-  pub network_agrees : (n : ℕ) → network_at m n ≡ first (filter_map (network_by n) (built r))
-  network_agrees n = first_picked (network_by n) (built r) (network_at m n) there back
+  pub network_agrees : (n : ℕ) → network_at m n ≡ first (filter_map (network_by n) (built r learnt))
+  network_agrees n = first_picked (network_by n) (built r learnt) (network_at m n) there back
     where
-      there : (f : Fact) (y : ℕ) → IsIn f (built r) → network_by n f ≡ Some y → network_at m n ≡ Some y
+      there : (f : Fact) (y : ℕ) → IsIn f (built r learnt) → network_by n f ≡ Some y → network_at m n ≡ Some y
       there (fact.Vni vni switch) y is e =
           let h = passed (vni == n) switch y e in
           ap (network_at m) (sym (number_same vni n h.0)) ∙ vni_said vni switch is ∙ ap Some h.1
@@ -137,28 +140,28 @@ module _ (r : Rows) (rows : IsRows r) (sound : Sound r) where
       there (fact.Mac switch mac place) y is e = cc
       there (fact.Flood switch group addresses) y is e = cc
 
-      back : (y : ℕ) → network_at m n ≡ Some y → (f : Fact) × IsIn f (built r) × (network_by n f ≡ Some y)
-      back y e = (fact.Vni n y, said_built r rows sound (spot.Vni n) (fact.Vni n y) (ap (option_map (fact.Vni n)) e), passes (n == n) y (number_itself n))
+      back : (y : ℕ) → network_at m n ≡ Some y → (f : Fact) × IsIn f (built r learnt) × (network_by n f ≡ Some y)
+      back y e = (fact.Vni n y, said_built r learnt rows sound once (spot.Vni n) (fact.Vni n y) (ap (option_map (fact.Vni n)) e), passes (n == n) y (number_itself n))
 
   -- ---- a switch that is bound
 
   module _ (s : ℕ) (bound : is_bound r s ≡ true) where
     walks : is_bound_at m s ≡ true
-    walks = bound_is r rows sound s ∙ bound
+    walks = bound_is r learnt rows sound once s ∙ bound
 
     key_there : (vni : ℕ) → network_at m vni ≡ Some s → vni_at m s ≡ Some vni
     key_there vni e =
         let f : fact_at m (spot.Vni vni) ≡ Some (fact.Vni vni s) = ap (option_map (fact.Vni vni)) e in
         let h = something m (spot.Vni vni) (fact.Vni vni s) f in
-        let x = at_given r rows sound (spot.Vni vni) h.0 h.1 in
+        let x = at_known r learnt rows sound once (spot.Vni vni) h.0 h.1 in
         let here : if_bound (is_bound_at m x.0) (Some x.0) ≡ Some s = ap (λ o. option_and_then (λ t. if_bound (is_bound_at m t) (Some t)) (of_in o)) (sym (h.1 ∙ ap Some x.4)) ∙ e in
         let same : x.0 ≡ s = same_some x.0 s (if_so (is_bound_at m x.0) (Some x.0) s here).1 in
-        vni_is r rows sound s ∙ ap (option_and_then (λ row. number_at row LogicalTunnelKey)) (ap (λ t. row_at r (LogicalSwitch, t)) (sym same) ∙ x.2) ∙ x.3
+        vni_is r learnt rows sound once s ∙ ap (option_and_then (λ row. number_at row LogicalTunnelKey)) (ap (λ t. row_at r (LogicalSwitch, t)) (sym same) ∙ x.2) ∙ x.3
 
-    pub vni_agrees : vni_at m s ≡ first (filter_map (vni_by s) (built r))
-    vni_agrees = first_picked (vni_by s) (built r) (vni_at m s) there back
+    pub vni_agrees : vni_at m s ≡ first (filter_map (vni_by s) (built r learnt))
+    vni_agrees = first_picked (vni_by s) (built r learnt) (vni_at m s) there back
       where
-        there : (f : Fact) (y : ℕ) → IsIn f (built r) → vni_by s f ≡ Some y → vni_at m s ≡ Some y
+        there : (f : Fact) (y : ℕ) → IsIn f (built r learnt) → vni_by s f ≡ Some y → vni_at m s ≡ Some y
         there (fact.Vni vni switch) y is e =
             let h = passed (switch == s) vni y e in
             key_there vni (vni_said vni switch is ∙ ap Some (number_same switch s h.0)) ∙ ap Some h.1
@@ -166,12 +169,12 @@ module _ (r : Rows) (rows : IsRows r) (sound : Sound r) where
         there (fact.Mac switch mac place) y is e = cc
         there (fact.Flood switch group addresses) y is e = cc
 
-        back : (y : ℕ) → vni_at m s ≡ Some y → (f : Fact) × IsIn f (built r) × (vni_by s f ≡ Some y)
+        back : (y : ℕ) → vni_at m s ≡ Some y → (f : Fact) × IsIn f (built r learnt) × (vni_by s f ≡ Some y)
         back y e =
-            let x = some_of (λ row. number_at row LogicalTunnelKey) (row_at r (LogicalSwitch, s)) y (sym (vni_is r rows sound s) ∙ e) in (
+            let x = some_of (λ row. number_at row LogicalTunnelKey) (row_at r (LogicalSwitch, s)) y (sym (vni_is r learnt rows sound once s) ∙ e) in (
               fact.Vni y s,
-              said_built r rows sound (spot.Vni y) (fact.Vni y s)
-                  (network_at_row r rows sound s x.0 y x.1 x.2 ∙ (λ i. if_bound (bound i) (option_map (λ vni. fact.Vni vni s) (x.2 i)))),
+              said_built r learnt rows sound once (spot.Vni y) (fact.Vni y s)
+                  (network_at_row r learnt rows sound once s x.0 y x.1 x.2 ∙ (λ i. if_bound (bound i) (option_map (λ vni. fact.Vni vni s) (x.2 i)))),
               passes (s == s) y (number_itself s),
             )
 
@@ -179,24 +182,24 @@ module _ (r : Rows) (rows : IsRows r) (sound : Sound r) where
     found_place b None e = refl
     found_place b (Some place) e = ap (λ c. if_bound (is_here place || c) (Some place)) e ∙ elim (is_here place) as (λ c. if_bound (c || true) (Some place) ≡ Some place) [ true ↦ refl | false ↦ refl ]
 
-    pub place_agrees : (a : ℕ) → place_at m s a ≡ first (filter_map (place_by s a) (built r))
-    place_agrees a = first_picked (place_by s a) (built r) (place_at m s a) there back
+    pub place_agrees : (a : ℕ) → place_at m s a ≡ first (filter_map (place_by s a) (built r learnt))
+    place_agrees a = first_picked (place_by s a) (built r learnt) (place_at m s a) there back
       where
         same : found_at m s a ≡ place_at m s a
         same = found_place (is_bound_at m s) (place_at m s a) walks
 
-        there : (f : Fact) (y : Place) → IsIn f (built r) → place_by s a f ≡ Some y → place_at m s a ≡ Some y
+        there : (f : Fact) (y : Place) → IsIn f (built r learnt) → place_by s a f ≡ Some y → place_at m s a ≡ Some y
         there (fact.Mac switch mac place) y is e =
             let h = passed ((switch == s) && (mac == a)) place y e in
             let at : fact.Mac switch mac place ≡ fact.Mac s a y =
             λ i. fact.Mac (number_same switch s (first_so (switch == s) (mac == a) h.0) i) (number_same mac a (second_so (switch == s) (mac == a) h.0) i) (h.1 i) in
-            sym same ∙ built_found r rows sound s a y (subst (λ f. IsIn f (built r)) at is)
+            sym same ∙ built_found r learnt rows sound once s a y (subst (λ f. IsIn f (built r learnt)) at is)
         there (fact.Vni vni switch) y is e = cc
         there (fact.Bind port vlan switch lists) y is e = cc
         there (fact.Flood switch group addresses) y is e = cc
 
-        back : (y : Place) → place_at m s a ≡ Some y → (f : Fact) × IsIn f (built r) × (place_by s a f ≡ Some y)
-        back y e = (fact.Mac s a y, found_built r rows sound s a y (same ∙ e), passes ((s == s) && (a == a)) y (both (s == s) (a == a) (number_itself s) (number_itself a)))
+        back : (y : Place) → place_at m s a ≡ Some y → (f : Fact) × IsIn f (built r learnt) × (place_by s a f ≡ Some y)
+        back y e = (fact.Mac s a y, found_built r learnt rows sound once s a y (same ∙ e), passes ((s == s) && (a == a)) y (both (s == s) (a == a) (number_itself s) (number_itself a)))
 
     abbrev some_list : List ℕ → Option (List ℕ)
     some_list [] = None
@@ -214,23 +217,23 @@ module _ (r : Rows) (rows : IsRows r) (sound : Sound r) where
     list_flood g [] ips e = cc
     list_flood g (x ∷ xs) ips e = ap (λ ys. Some (fact.Flood s g ys)) (same_some (x ∷ xs) ips e)
 
-    pub flood_agrees : (g : Option ℕ) → flood_at m s g ≡ unwrap_or (first (filter_map (flood_by s g) (built r))) []
-    flood_agrees g = listed (flood_at m s g) ∙ ap (λ o. unwrap_or o []) (first_picked (flood_by s g) (built r) (some_list (flood_at m s g)) there back)
+    pub flood_agrees : (g : Option ℕ) → flood_at m s g ≡ unwrap_or (first (filter_map (flood_by s g) (built r learnt))) []
+    flood_agrees g = listed (flood_at m s g) ∙ ap (λ o. unwrap_or o []) (first_picked (flood_by s g) (built r learnt) (some_list (flood_at m s g)) there back)
       where
-        there : (f : Fact) (y : List ℕ) → IsIn f (built r) → flood_by s g f ≡ Some y → some_list (flood_at m s g) ≡ Some y
+        there : (f : Fact) (y : List ℕ) → IsIn f (built r learnt) → flood_by s g f ≡ Some y → some_list (flood_at m s g) ≡ Some y
         there (fact.Flood switch group addresses) y is e =
             let h = passed ((switch == s) && same_group group g) addresses y e in
             let at : fact.Flood switch group addresses ≡ fact.Flood s g y =
             λ i. fact.Flood (number_same switch s (first_so (switch == s) (same_group group g) h.0) i) (group_same group g (second_so (switch == s) (same_group group g) h.0) i) (h.1 i) in
-            let f = said (fact.Flood s g y) (spot.Switch s (part.Group g)) (subst (λ f. IsIn f (built r)) at is) (λ j q. sym (its_place m j (fact.Flood s g y) q)) in
+            let f = said (fact.Flood s g y) (spot.Switch s (part.Group g)) (subst (λ f. IsIn f (built r learnt)) at is) (λ j q. sym (its_place m j (fact.Flood s g y) q)) in
             flood_list g (flood_at m s g) y (if_so (is_bound_at m s) (flood_to s g (flood_at m s g)) (fact.Flood s g y) f).1
         there (fact.Vni vni switch) y is e = cc
         there (fact.Bind port vlan switch lists) y is e = cc
         there (fact.Mac switch mac place) y is e = cc
 
-        back : (y : List ℕ) → some_list (flood_at m s g) ≡ Some y → (f : Fact) × IsIn f (built r) × (flood_by s g f ≡ Some y)
+        back : (y : List ℕ) → some_list (flood_at m s g) ≡ Some y → (f : Fact) × IsIn f (built r learnt) × (flood_by s g f ≡ Some y)
         back y e = (
           fact.Flood s g y,
-          said_built r rows sound (spot.Switch s (part.Group g)) (fact.Flood s g y) ((λ i. if_bound (walks i) (flood_to s g (flood_at m s g))) ∙ list_flood g (flood_at m s g) y e),
+          said_built r learnt rows sound once (spot.Switch s (part.Group g)) (fact.Flood s g y) ((λ i. if_bound (walks i) (flood_to s g (flood_at m s g))) ∙ list_flood g (flood_at m s g) y e),
           passes ((s == s) && same_group g g) y (both (s == s) (same_group g g) (number_itself s) (group_itself g)),
         )

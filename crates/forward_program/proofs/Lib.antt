@@ -10,12 +10,16 @@ pub mod Given
 pub mod MapLists
 pub mod Columns
 pub mod Unique
+pub mod HostLaws
+pub mod Known
 pub mod PairSearch
 pub mod PortAt
 pub mod Homes
 pub mod InChange
 pub mod Clearing
 pub mod Followed
+pub mod Asked
+pub mod Led
 pub mod SameLaws
 pub mod Moves
 pub mod ClearRows

@@ -59,7 +59,7 @@ module _ {K X : Type 0} {R : K → K → Ordering} (same : IsAntisymmetric R) wh
   get_in m k x is = found_in k x m.list is
 
 module _ {K : Type 0} {R : K → K → Ordering} (o : IsTotalOrder R) (same : IsAntisymmetric R) where
-  apart : (k x : K) → (k ≡ x → ⊥) → eq_by_cmp R k x ≡ false
+  pub apart : (k x : K) → (k ≡ x → ⊥) → eq_by_cmp R k x ≡ false
   apart k x h = by (eq_by_cmp R k x) refl
     where
       by : (b : Bool) → eq_by_cmp R k x ≡ b → b ≡ false

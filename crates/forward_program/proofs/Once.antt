@@ -9,7 +9,9 @@ use Rattle.std.specs.FinMap.Entries.{below_all}
 use Rattle.vtep_base.specs.Maps as maps
 use Rattle.vtep_rows.specs.Rows.{Rows, IsRows}
 use Rattle.vtep_rows.specs.Sound.{Sound}
-use Rattle.vtep_rows.proofs.Entries.{t_first, t_second}
+use Rattle.vtep_rows.proofs.Entries.{t_first, t_second, same_some}
+use Rattle.mac_learning.specs.declared.Learnt.{Learnt}
+use Rattle.mac_learning.specs.Learning.{IsOnce}
 use Rattle.forward_program.specs.declared.spots.Spot.{Spot}
 use Rattle.forward_program.specs.declared.spots.Spot.TheVariants as spot
 use Rattle.forward_program.specs.declared.spots.Part.TheVariants as part
@@ -84,13 +86,17 @@ facts_apart m = picked_apart m (maps.keys m) (keys_apart m.list m.sorted)
 same_place : (s a : ℕ) (x y : Place) → fact.Mac s a x ≡ fact.Mac s a y → x ≡ y
 same_place s a x y e = cc
 
-module _ (r : Rows) (rows : IsRows r) (sound : Sound r) (s a : ℕ) (place : Place) where
-  pub found_built : found_at (shown r) s a ≡ Some place → IsIn (fact.Mac s a place) (built r)
-  found_built is = said_built r rows sound (spot.Switch s (part.Host a)) (fact.Mac s a place) (ap (option_map (fact.Mac s a)) is)
+module _ (r : Rows) (learnt : List Learnt) (rows : IsRows r) (sound : Sound r) (once : IsOnce learnt) (s a : ℕ) (place : Place) where
+  pub found_built : found_at (shown r learnt) s a ≡ Some place → IsIn (fact.Mac s a place) (built r learnt)
+  found_built is = said_built r learnt rows sound once (spot.Switch s (part.Host a)) (fact.Mac s a place) (ap (option_map (fact.Mac s a)) is)
 
-  pub built_found : IsIn (fact.Mac s a place) (built r) → found_at (shown r) s a ≡ Some place
+  pub built_found : IsIn (fact.Mac s a place) (built r learnt) → found_at (shown r learnt) s a ≡ Some place
   built_found is =
-      let k = built_said r rows sound (fact.Mac s a place) is in
-      let said : fact_at (shown r) (spot.Switch s (part.Host a)) ≡ Some (fact.Mac s a place) = ap (fact_at (shown r)) (its_place (shown r) k.0 (fact.Mac s a place) k.1) ∙ k.1 in
-      let x = map_of (fact.Mac s a) (found_at (shown r) s a) (fact.Mac s a place) said in
+      let k = built_said r learnt rows sound once (fact.Mac s a place) is in
+      let said : fact_at (shown r learnt) (spot.Switch s (part.Host a)) ≡ Some (fact.Mac s a place) = ap (fact_at (shown r learnt)) (its_place (shown r learnt) k.0 (fact.Mac s a place) k.1) ∙ k.1 in
+      let x = map_of (fact.Mac s a) (found_at (shown r learnt) s a) (fact.Mac s a place) said in
       x.1 ∙ ap Some (sym (same_place s a place x.0 x.2))
+
+-- an address has one place
+pub one_place : (r : Rows) (learnt : List Learnt) (rows : IsRows r) (sound : Sound r) (once : IsOnce learnt) (s a : ℕ) (x y : Place) → IsIn (fact.Mac s a x) (built r learnt) → IsIn (fact.Mac s a y) (built r learnt) → x ≡ y
+one_place r learnt rows sound once s a x y is js = same_some x y (sym (built_found r learnt rows sound once s a x is) ∙ built_found r learnt rows sound once s a y js)

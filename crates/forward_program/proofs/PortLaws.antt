@@ -14,6 +14,8 @@ use Rattle.vtep_base.specs.Maps as maps
 use Rattle.vlan_bindings.specs.Places.{place_cmp}
 use Rattle.vtep_rows.specs.Rows.{Rows, IsRows}
 use Rattle.vtep_rows.specs.Sound.{Sound}
+use Rattle.mac_learning.specs.declared.Learnt.{Learnt}
+use Rattle.mac_learning.specs.Learning.{IsOnce}
 use Rattle.forward_program.specs.declared.spots.Spot.TheVariants as spot
 use Rattle.forward_program.specs.declared.spots.Part.TheVariants as part
 use Rattle.forward_program.specs.declared.held.Held.TheVariants as held
@@ -29,7 +31,7 @@ use Rattle.forward_program.proofs.InLists.{in_map, map_in, in_picked, picked_in}
 use Rattle.forward_program.proofs.MapLists.{in_get, get_in, found_in}
 use Rattle.forward_program.proofs.SpotOrder.{spot_exact}
 use Rattle.forward_program.proofs.Walks.{member_there, there_member, members_in_order}
-use Rattle.forward_program.proofs.Unique.{at_given, given_at}
+use Rattle.forward_program.proofs.Known.{at_known, known_at}
 use Rattle.forward_program.proofs.FactLaws.{said_built, bind_at, something}
 use Rattle.forward_program.proofs.HopLaws.{said, passed, number_same, number_itself}
 use Rattle.forward_program.proofs.Once.{its_place}
@@ -56,12 +58,12 @@ module _ {K X : Type 0} {R : K → K → Ordering} (o : IsTotalOrder R) where
 bind_vlan : (p q : Bytes) (v w s t : ℕ) (ls ks : List ℕ) → fact.Bind p v s ls ≡ fact.Bind q w t ks → s ≡ t
 bind_vlan p q v w s t ls ks e = cc
 
-module _ (r : Rows) (rows : IsRows r) (sound : Sound r) (s : ℕ) where
+module _ (r : Rows) (learnt : List Learnt) (rows : IsRows r) (sound : Sound r) (once : IsOnce learnt) (s : ℕ) where
   abbrev m : Entries
-  m = shown r
+  m = shown r learnt
 
   abbrev told : List Port
-  told = filter_map (port_by s) (built r)
+  told = filter_map (port_by s) (built r learnt)
 
   abbrev marked : List Port → List (Port × Unit {0})
   marked ps = map (λ (p : Port). (p, tt {0})) ps
@@ -70,23 +72,23 @@ module _ (r : Rows) (rows : IsRows r) (sound : Sound r) (s : ℕ) where
   walked_told : (p : Port) (lists : Lists) → IsIn (p, lists) (members_at m s) → IsIn p told
   walked_told p lists h =
       let there = in_get spot_total m (spot.Switch s (part.Member p.0 p.1)) (held.Lists lists) (member_there s m p lists h) in
-      let x = at_given r rows sound (spot.Switch s (part.Member p.0 p.1)) (held.Lists lists) there in
-      picked_in (port_by s) p (bind_fact x.0) (built r)
-      (said_built r rows sound (spot.Port x.0.port x.0.vlan) (bind_fact x.0) (bind_at r rows sound x.0 x.1))
+      let x = at_known r learnt rows sound once (spot.Switch s (part.Member p.0 p.1)) (held.Lists lists) there in
+      picked_in (port_by s) p (bind_fact x.0) (built r learnt)
+      (said_built r learnt rows sound once (spot.Port x.0.port x.0.vlan) (bind_fact x.0) (bind_at r learnt rows sound once x.0 x.1))
       (ap (λ b. cond b (Some (x.0.port, x.0.vlan)) None) (ap (λ t. t == s) x.2 ∙ number_itself s) ∙ (λ i. Some (x.3 i, x.4 i)))
 
   -- and a fact is one that the walk finds
-  bind_walked : (port : Bytes) (vlan switch : ℕ) (lists : List ℕ) → IsIn (fact.Bind port vlan switch lists) (built r) → switch ≡ s → (ls : Lists) × IsIn ((port, vlan), ls) (members_at m s)
+  bind_walked : (port : Bytes) (vlan switch : ℕ) (lists : List ℕ) → IsIn (fact.Bind port vlan switch lists) (built r learnt) → switch ≡ s → (ls : Lists) × IsIn ((port, vlan), ls) (members_at m s)
   bind_walked port vlan switch lists is same =
-      let f = said r rows sound (fact.Bind port vlan switch lists) (spot.Port port vlan) is (λ j e. sym (its_place m j (fact.Bind port vlan switch lists) e)) in
+      let f = said r learnt rows sound once (fact.Bind port vlan switch lists) (spot.Port port vlan) is (λ j e. sym (its_place m j (fact.Bind port vlan switch lists) e)) in
       let h = something m (spot.Port port vlan) (fact.Bind port vlan switch lists) f in
-      let x = at_given r rows sound (spot.Port port vlan) h.0 h.1 in
-      let again : Some (fact.Bind port vlan switch lists) ≡ Some (bind_fact x.0) = sym f ∙ (λ i. fact_at m (spot.Port (sym x.2 i) (sym x.3 i))) ∙ bind_at r rows sound x.0 x.1 in
+      let x = at_known r learnt rows sound once (spot.Port port vlan) h.0 h.1 in
+      let again : Some (fact.Bind port vlan switch lists) ≡ Some (bind_fact x.0) = sym f ∙ (λ i. fact_at m (spot.Port (sym x.2 i) (sym x.3 i))) ∙ bind_at r learnt rows sound once x.0 x.1 in
       let to : x.0.switch ≡ s = sym (bind_vlan port x.0.port vlan x.0.vlan switch x.0.switch lists (acl_rows x.0.lists) (cc)) ∙ same in
-      let entry = given_at r rows sound (spot.Switch s (part.Member port vlan)) (held.Lists x.0.lists) (x.0, x.1, to, x.2, x.3, refl) in
+      let entry = known_at r learnt rows sound once (spot.Switch s (part.Member port vlan)) (held.Lists x.0.lists) (x.0, x.1, to, x.2, x.3, refl) in
       (x.0.lists, there_member s m (port, vlan) x.0.lists (get_in spot_exact m (spot.Switch s (part.Member port vlan)) (held.Lists x.0.lists) entry))
 
-  told_walked : (f : Fact) (p : Port) → IsIn f (built r) → port_by s f ≡ Some p → (ls : Lists) × IsIn (p, ls) (members_at m s)
+  told_walked : (f : Fact) (p : Port) → IsIn f (built r learnt) → port_by s f ≡ Some p → (ls : Lists) × IsIn (p, ls) (members_at m s)
   told_walked (fact.Bind port vlan switch lists) p is e =
       let h = passed (switch == s) (port, vlan) p e in
       let w = bind_walked port vlan switch lists is (number_same switch s h.0) in
@@ -114,7 +116,7 @@ module _ (r : Rows) (rows : IsRows r) (sound : Sound r) (s : ℕ) where
   back q e =
       let h = found_in place_exact q (tt {0}) (marked told) (sym (maps.get-of_list place_total (marked told) q) ∙ e) in
       let p = in_map (λ (p : Port). (p, tt {0})) (q, tt {0}) told h in
-      let f = in_picked (port_by s) p.0 (built r) p.1 in
+      let f = in_picked (port_by s) p.0 (built r learnt) p.1 in
       let w = told_walked f.0 p.0 f.1 f.2 in
       let same : p.0 ≡ q = ap (λ (x : Port × Unit {0}). x.0) (sym p.2) in
       in_get place_total walked q tt (subst (λ (x : Port). IsIn (x, tt {0}) walked.list) same (map_in (λ (b : Port × Lists). (b.0, tt {0})) (p.0, w.0) walk w.1))

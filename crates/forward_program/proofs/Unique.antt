@@ -35,7 +35,7 @@ use Rattle.forward_program.specs.Built.{IsIn, Binding, binding, bindings_with, b
 use Rattle.forward_program.proofs.InLists.{in_flat, in_map}
 use Rattle.forward_program.proofs.RowsIn.{in_rows}
 use Rattle.forward_program.specs.Spots.{spot_total}
-use Rattle.forward_program.specs.Shown.{all_entries, shown}
+use Rattle.forward_program.specs.Shown.{all_entries, rows_shown}
 use Rattle.forward_program.proofs.SpotOrder.{spot_exact}
 use Rattle.forward_program.proofs.MapLists.{in_get, in_has, from_entries}
 use Rattle.forward_program.proofs.Columns.{text_alone, id_alone, number_alone, hold_one, mac_spelled, atoms_fit}
@@ -242,16 +242,16 @@ module _ (r : Rows) (rows : IsRows r) (sound : Sound r) where
   given_once (spot.Acl i) h l x y = absurd x
 
   -- what is given stands at its place
-  pub given_at : (k : Spot) (h : Held) → Given r k h → maps.get (shown r) k ≡ Some h
-  given_at k h x = by (maps.get (shown r) k) refl
+  pub given_at : (k : Spot) (h : Held) → Given r k h → maps.get (rows_shown r) k ≡ Some h
+  given_at k h x = by (maps.get (rows_shown r) k) refl
     where
-      by : (o : Option Held) → maps.get (shown r) k ≡ o → maps.get (shown r) k ≡ Some h
+      by : (o : Option Held) → maps.get (rows_shown r) k ≡ o → maps.get (rows_shown r) k ≡ Some h
       by None e =
-          let there : maps.has (shown r) k ≡ true = in_has spot_total (all_entries r) maps.empty k h (given_listed r k h x) in
+          let there : maps.has (rows_shown r) k ≡ true = in_has spot_total (all_entries r) maps.empty k h (given_listed r k h x) in
           let clash : false ≡ true = ap is_some (sym e) ∙ there in
           cc
       by (Some l) e = e ∙ ap Some (given_once k l h (listed_given r k l (from_entries spot_total spot_exact (all_entries r) k l e)) x)
 
   -- what stands at a place is given
-  pub at_given : (k : Spot) (h : Held) → maps.get (shown r) k ≡ Some h → Given r k h
+  pub at_given : (k : Spot) (h : Held) → maps.get (rows_shown r) k ≡ Some h → Given r k h
   at_given k h is = listed_given r k h (from_entries spot_total spot_exact (all_entries r) k h is)

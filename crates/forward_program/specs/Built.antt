@@ -1,5 +1,5 @@
--- The forwarding state as a set of facts, each taken anew from all rows of the gateway (vtep(5)).
-use Rattle.std.specs.Prelude.{◌≡◌, ◌⊎◌, ℕ, Bool, ◌==◌, if◌then◌else◌, List, [], ◌∷◌, ◌++◌, map, filter_map, flat_map, Option, Some, None, option_map, option_and_then, unwrap_or}
+-- The forwarding state as a set of facts, each taken anew from all rows of the gateway (vtep(5)) and its learnt addresses.
+use Rattle.std.specs.Prelude.{◌≡◌, ◌⊎◌, ℕ, Bool, ◌==◌, if◌then◌else◌, List, [], ◌∷◌, ◌++◌, map, filter_map, flat_map, Option, Some, None, option_map, option_and_then, unwrap_or, is_some}
 use Rattle.std.specs.List.{list_any}
 use Rattle.std.specs.Option.{option_to_list}
 use Rattle.vtep_base.specs.Reading.{Bytes}
@@ -11,12 +11,14 @@ use Rattle.vtep_rows.specs.Row.{Contents, number_at}
 use Rattle.vtep_rows.specs.Rows.{Rows, rows_of, row_at}
 use Rattle.locator_sets.specs.Locators.{other_addresses}
 use Rattle.replication.specs.Targets.{targets}
+use Rattle.mac_learning.specs.declared.Learnt.{Learnt}
+use Rattle.mac_learning.specs.Learning.{found}
 use Rattle.forward_program.specs.declared.readings.Remote.{Remote}
 use Rattle.forward_program.specs.declared.readings.Group.{Group}
 use Rattle.forward_program.specs.declared.held.Lists.{Lists}
 use Rattle.forward_program.specs.declared.facts.Fact.{Fact}
 use Rattle.forward_program.specs.declared.facts.Fact.TheVariants as fact
-use Rattle.forward_program.specs.declared.facts.Place.TheVariants.{There}
+use Rattle.forward_program.specs.declared.facts.Place.TheVariants.{Here, There}
 use Rattle.forward_program.specs.Readings.{port_name, vlan_bindings, lists_at, mode_of, remote_of, group_of, own_ip, locator_address, other_address, set_locators}
 
 -- a member of a list
@@ -75,6 +77,14 @@ vni_fact r e = if_bound (is_bound r e.0) (option_map (λ vni. fact.Vni vni e.0) 
 abbrev pub remote_fact : Rows → Remote → Option Fact
 remote_fact r a = if_bound (is_bound r a.switch) (option_map (λ ip. fact.Mac a.switch a.mac (There ip)) (other_address (own_ip r) (locator_address r a.locator)))
 
+-- the same, where the address is not learnt on the switch
+abbrev pub unlearnt_fact : Rows → List Learnt → Remote → Option Fact
+unlearnt_fact r l a = if is_some (found a.switch a.mac l) then None else remote_fact r a
+
+-- a learnt address
+abbrev pub learnt_fact : Learnt → Fact
+learnt_fact e = fact.Mac e.switch e.mac (Here e.port e.vlan)
+
 abbrev pub mode_at : Rows → ℕ → Mode
 mode_at r switch = unwrap_or (option_map mode_of (row_at r (LogicalSwitch, switch))) Service
 
@@ -90,9 +100,10 @@ flood_to switch group (ip ∷ ips) = Some (fact.Flood switch group (ip ∷ ips))
 abbrev pub flood_fact : Rows → Group → Option Fact
 flood_fact r g = if_bound (is_bound r g.switch) (flood_to g.switch g.group (targets (mode_at r g.switch) (set_addresses r g.set)))
 
-abbrev pub built : Rows → List Fact
-built r =
+abbrev pub built : Rows → List Learnt → List Fact
+built r l =
     filter_map (vni_fact r) (rows_of LogicalSwitch r)
     ++ map bind_fact (bindings r)
-    ++ filter_map (λ e. option_and_then (remote_fact r) (remote_of e.1)) (rows_of UcastMacsRemote r)
+    ++ map learnt_fact l
+    ++ filter_map (λ e. option_and_then (unlearnt_fact r l) (remote_of e.1)) (rows_of UcastMacsRemote r)
     ++ filter_map (λ e. option_and_then (flood_fact r) (group_of e.1)) (rows_of McastMacsRemote r)

@@ -1,18 +1,22 @@
--- How the forwarding state follows a change of rows: the places of what was are emptied, and then what is is put.
-use Rattle.std.specs.Prelude.{◌≡◌, ◌⊎◌, ℕ, Bool, true, not, ◌&&◌, List, [], ◌++◌, map, flat_map, Option, Some, None, option_and_then}
+-- How the forwarding state follows a change of rows and of the learnt list: the places of what was in the rows are emptied, then
+-- what is in them is put, and last the learnt list is asked for each address that the change may concern.
+use Rattle.std.specs.Prelude.{◌≡◌, ◌⊎◌, ℕ, Bool, true, not, ◌&&◌, List, [], ◌++◌, map, flat_map, Option, Some, None, option_map, option_and_then, if◌then◌else◌}
 use Rattle.std.specs.Option.{option_to_list}
 use Rattle.vtep_base.specs.Maps as maps
 use Rattle.vtep_schema.specs.declared.Table.{Table}
-use Rattle.vtep_schema.specs.declared.Table.TheVariants.{PhysicalSwitch}
+use Rattle.vtep_schema.specs.declared.Table.TheVariants.{PhysicalSwitch, UcastMacsRemote}
 use Rattle.vtep_schema.specs.declared.Column.TheVariants.{SwitchTunnelIps}
 use Rattle.vtep_schema.specs.Tables.{same_table}
 use Rattle.vtep_rows.specs.declared.differences.RowChange.{RowChange}
 use Rattle.vtep_rows.specs.Row.{Contents, is_row}
+use Rattle.mac_learning.specs.declared.Learnt.{Learnt}
 use Rattle.forward_program.specs.declared.spots.Spot.{Spot}
-use Rattle.forward_program.specs.Readings.{ip_at}
+use Rattle.forward_program.specs.Readings.{ip_at, remote_of}
 use Rattle.forward_program.specs.Same.{same_number}
 use Rattle.forward_program.specs.Built.{IsIn, bindings_of}
 use Rattle.forward_program.specs.Spots.{Entries}
+use Rattle.forward_program.specs.Joins.{Port}
+use Rattle.forward_program.specs.Hosts.{host, learnt_port, with_places}
 use Rattle.forward_program.specs.Shown.{Entry, binding_entries, row_entries}
 
 -- ---- the rows of a change
@@ -54,6 +58,33 @@ IsBound row k l = IsIn k (port_places row) × IsIn l (port_places row)
 -- of the places outside `staying` those of `gone` are empty, and the others are as they were
 abbrev pub IsCleared : Entries → Entries → List Spot → List Spot → Type 0
 IsCleared m n gone staying = (k : Spot) → (IsIn k staying → ⊥) → (IsIn k gone × (maps.get n k ≡ None)) ⊎ ((IsIn k gone → ⊥) × (maps.get n k ≡ maps.get m k))
+
+-- ---- addresses that may be learnt or not learnt from now on
+
+-- an address of a switch
+abbrev pub Address : Type 0
+Address = ℕ × ℕ
+
+abbrev pub learnt_address : Learnt → Address
+learnt_address e = (e.switch, e.mac)
+
+-- each address that came, went or moved is in the list
+abbrev pub AreMoved : List Learnt → List Learnt → List Learnt → Type 0
+AreMoved before now moved = (switch mac : ℕ) → IsIn (switch, mac) (map learnt_address moved) ⊎ (learnt_port before switch mac ≡ learnt_port now switch mac)
+
+abbrev pub remote_address : Option Contents → List Address
+remote_address row = option_to_list (option_map (λ a. (a.switch, a.mac)) (option_and_then remote_of row))
+
+-- the addresses of a remote row that differs
+abbrev pub remote_addresses : RowChange → List Address
+remote_addresses c = if same_table c.table UcastMacsRemote then remote_address c.old ++ remote_address c.new else []
+
+abbrev pub place_now : List Learnt → Address → Spot × Option Port
+place_now l a = (host a.0 a.1, learnt_port l a.0 a.1)
+
+-- the learnt list is asked for these addresses
+abbrev pub asked : List Learnt → List Address → Entries → Entries
+asked l addresses m = with_places m (map (place_now l) addresses)
 
 -- ---- the gateway's own address
 

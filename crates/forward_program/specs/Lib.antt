@@ -2,8 +2,9 @@ pub mod Readings
 pub mod Places
 pub mod Built
 pub mod Spots
-pub mod Shown
 pub mod Joins
+pub mod Hosts
+pub mod Shown
 pub mod Inserts
 pub mod Hop
 pub mod Hops

@@ -1,4 +1,5 @@
--- The entries of the forwarding state of rows: one for each row, and two for each pair of vlan_bindings.
+-- The entries of the forwarding state of rows and learnt addresses: one for each row, two for each pair of vlan_bindings, and one
+-- for each address that is learnt or has a remote row.
 use Rattle.std.specs.Prelude.{ℕ, List, [], ◌∷◌, flat_map, Option, Some, None}
 use Rattle.vtep_base.specs.Reading.{Bytes}
 use Rattle.vtep_base.specs.Maps as maps
@@ -7,6 +8,7 @@ use Rattle.vtep_schema.specs.declared.Table.TheVariants.{PhysicalPort, LogicalSw
 use Rattle.vtep_schema.specs.declared.Column.TheVariants.{LogicalTunnelKey, SetLocators, LocatorDstIp}
 use Rattle.vtep_rows.specs.Row.{Contents, number_at, ids_at, put_all}
 use Rattle.vtep_rows.specs.Rows.{Rows, rows_of}
+use Rattle.mac_learning.specs.declared.Learnt.{Learnt}
 use Rattle.forward_program.specs.declared.spots.Spot.{Spot}
 use Rattle.forward_program.specs.declared.spots.Spot.TheVariants as spot
 use Rattle.forward_program.specs.declared.spots.Part.TheVariants as part
@@ -17,6 +19,7 @@ use Rattle.forward_program.specs.declared.held.Held.TheVariants as held
 use Rattle.forward_program.specs.Readings.{mode_of, remote_of, group_of, ip_at, other_address, own_ip}
 use Rattle.forward_program.specs.Built.{Binding, binding, bindings_of}
 use Rattle.forward_program.specs.Spots.{Entries}
+use Rattle.forward_program.specs.Hosts.{with_learnt}
 
 abbrev pub Entry : Type 0
 Entry = Spot × Held
@@ -81,5 +84,10 @@ forward_tables = PhysicalPort ∷ LogicalSwitch ∷ UcastMacsRemote ∷ McastMac
 abbrev pub all_entries : Rows → List Entry
 all_entries r = flat_map (table_entries r) forward_tables
 
-abbrev pub shown : Rows → Entries
-shown r = put_all maps.empty (all_entries r)
+-- what the rows show
+abbrev pub rows_shown : Rows → Entries
+rows_shown r = put_all maps.empty (all_entries r)
+
+-- what the rows and the learnt addresses show
+abbrev pub shown : Rows → List Learnt → Entries
+shown r l = with_learnt l (rows_shown r)

@@ -37,7 +37,7 @@ pub enum Fact {
         switch: RowId,
         lists: List<RowId>,
     },
-    /// An address of a bound switch, and where it is.
+    /// A learnt address, or one of a bound switch behind another gateway, and where it is.
     Mac {
         switch: RowId,
         mac: Mac,

@@ -1,6 +1,6 @@
 //! The forwarding state.
 
-ghost use Rattle.std.specs.Prelude.{◌≡◌, ◌≤◌, ◌+◌, ◌++◌, ℕ, false, true, None, ◌↔◌, length, vec_len, filter_map, flat_map, IsSome, IfOk, OnOk, OnErr};
+ghost use Rattle.std.specs.Prelude.{◌≡◌, ◌≤◌, ◌+◌, ◌++◌, ℕ, List, false, true, None, ◌↔◌, length, vec_len, filter_map, flat_map, IsSome, IfOk, OnOk, OnErr};
 ghost use Rattle.std.specs.List.{list_all};
 ghost use Rattle.std.specs.Option.{option_to_list};
 ghost use Rattle.vtep_base.specs.Maps as maps;
@@ -13,6 +13,10 @@ ghost use Rattle.vtep_rows.specs.Sound.{Sound};
 ghost use Rattle.vtep_rows.specs.Changes.{changes};
 ghost use Rattle.forward_program.specs.Readings.{own_address, number_and_id, is_vlan};
 ghost use Rattle.forward_program.specs.Shown.{binding_entries, pair_entries, vni_entries, row_entries, table_entries, forward_tables, all_entries, shown};
+ghost use Rattle.forward_program.specs.Hosts.{with_learnt};
+ghost use Rattle.forward_program.specs.Follows.{AreMoved};
+ghost use Rattle.mac_learning.specs.declared.Learnt.{Learnt as Entry};
+ghost use Rattle.mac_learning.specs.Learning.{IsOnce};
 
 use crate::follow::moves_own;
 use crate::held::{Few, Held, Lists};
@@ -21,6 +25,7 @@ use crate::readings::{
     vlan_and_switch, vlan_pairs,
 };
 use crate::spots::{Part, Spot};
+use mac_learning::{Learned, Learnt};
 use ovsdb_values::Atom;
 use std::alloc::Global;
 use std::marker::Model;
@@ -105,7 +110,12 @@ impl<L: Ledger> Fib<L> {
         self.broken
     }
 
-    fn put(&mut self, spot: Spot, held: Held, steps: &mut Steps<L>) -> Result<(), OutOfMemory>
+    pub(crate) fn put(
+        &mut self,
+        spot: Spot,
+        held: Held,
+        steps: &mut Steps<L>,
+    ) -> Result<(), OutOfMemory>
         ensures ok { OnOk result (self.new.entries ≡ maps.insert self.old.entries spot held) }
         ensures same { self.new.broken ≡ self.old.broken }
     {
@@ -355,6 +365,23 @@ impl<L: Ledger> Fib<L> {
         Ok(())
     }
 
+    /// Adds what the rows and the learnt addresses have.
+    fn fill_all(
+        &mut self,
+        alloc: Global,
+        rows: &Rows,
+        learned: &Learned,
+        steps: &mut Steps<L>,
+    ) -> Result<(), OutOfMemory>
+        requires { IsSome (own_address rows.now) }
+        ensures ok { OnOk result (self.new.entries ≡ with_learnt learned.now.entries
+            (put_all self.old.entries (all_entries rows.now))) }
+        ensures same { self.new.broken ≡ self.old.broken }
+    {
+        self.fill(alloc, rows, steps)?;
+        self.put_learnt(learned, steps)
+    }
+
     fn first(&self) -> Option<Spot>
         ensures { result ≡ first (maps.keys self.now.entries) }
     {
@@ -384,72 +411,85 @@ impl<L: Ledger> Fib<L> {
         self.broken = broken;
     }
 
-    /// Makes it the state of these rows, by the rows that differ where the gateway's own address is what it was.
+    /// Makes it the state of these rows and learnt addresses, by what differs where the gateway's own address is what it was.
     fn lead(
         &mut self,
         alloc: Global,
         rows: &Rows,
+        learned: &Learned,
         change: &[RowChange],
+        moved: &[Learnt],
         steps: &mut Steps<L>,
     ) -> Result<(), OutOfMemory>
         requires sound { Sound rows.now }
         requires own { IsSome (own_address rows.now) }
-        ensures state { (before : AllRows) → Sound before → change.now ≡ changes before rows.now
-            → self.old.entries ≡ shown before → OnOk result (self.new.entries ≡ shown rows.now) }
+        ensures state { (before : AllRows) → (known : List Entry) → Sound before → IsOnce known
+            → change.now ≡ changes before rows.now
+            → AreMoved known learned.now.entries moved.now
+            → self.old.entries ≡ shown before known
+            → OnOk result (self.new.entries ≡ shown rows.now learned.now.entries) }
         ensures same { self.new.broken ≡ self.old.broken }
     {
-        // It says that each row is one of its table.
+        // They say that each row is one of its table, and that each address is learnt once.
         let _ = rows.counter();
+        let _ = learned.entries();
         if let Some(own) = own_address(rows) {
             if !moves_own(change) {
-                return self.follow(alloc, own, change, steps);
+                return self.follow(alloc, own, learned, change, moved, steps);
             }
         }
         self.clear(steps);
-        self.fill(alloc, rows, steps)
+        self.fill_all(alloc, rows, learned, steps)
     }
 
-    /// Follows a commit that led from some sound rows, of which this is the state, to these rows by this change. After an `Err`
-    /// the state is broken.
+    /// Follows a commit that led from some sound rows and learnt addresses, of which this is the state, to these, by this change
+    /// of the rows. `moved` has the learnt addresses that came, went or moved. After an `Err` the state is broken.
     pub fn apply(
         &mut self,
         alloc: Global,
         rows: &Rows,
+        learned: &Learned,
         change: &Change,
+        moved: &[Learnt],
         steps: &mut Steps<L>,
     ) -> Result<(), OutOfMemory>
         requires going { self.old.broken ≡ false }
         requires sound { Sound rows.now }
         requires own { IsSome (own_address rows.now) }
-        ensures state { (before : AllRows) → Sound before → change.now ≡ changes before rows.now
-            → self.old.entries ≡ shown before
-            → OnOk result (self.new ≡ record { entries = shown rows.now; broken = false }) }
+        ensures state { (before : AllRows) → (known : List Entry) → Sound before → IsOnce known
+            → change.now ≡ changes before rows.now
+            → AreMoved known learned.now.entries moved.now
+            → self.old.entries ≡ shown before known
+            → OnOk result (self.new
+            ≡ record { entries = shown rows.now learned.now.entries; broken = false }) }
         ensures broken { OnErr result (self.new.broken ≡ true) }
     {
         self.set_broken(true);
-        self.lead(alloc, rows, change.as_slice(), steps)?;
+        self.lead(alloc, rows, learned, change.as_slice(), moved, steps)?;
         self.set_broken(false);
         Ok(())
     }
 }
 
-/// The forwarding state of sound rows with an own address.
+/// The forwarding state of sound rows with an own address, and of learnt addresses.
 pub fn build<L: Ledger>(
     alloc: Global,
     rows: &Rows,
+    learned: &Learned,
     steps: &mut Steps<L>,
 ) -> Result<Fib<L>, OutOfMemory>
     requires sound { Sound rows.now }
     requires own { IsSome (own_address rows.now) }
-    ensures state { IfOk result
-        (λ fib. fib ≡ record { entries = shown rows.now; broken = false }) }
-    // It says what is built from the rows.
+    ensures state { IfOk result (λ fib. fib
+        ≡ record { entries = shown rows.now learned.now.entries; broken = false }) }
+    // It says what is built from the rows and the learnt addresses.
     ensures built { IfOk result (λ fib. (f : Fact)
-        → IsIn f (facts_of fib.entries) ↔ IsIn f (built rows.now)) }
+        → IsIn f (facts_of fib.entries) ↔ IsIn f (built rows.now learned.now.entries)) }
 {
-    // It says that each row is one of its table.
+    // They say that each row is one of its table, and that each address is learnt once.
     let _ = rows.counter();
+    let _ = learned.entries();
     let mut fib = Fib::new(alloc);
-    fib.fill(alloc, rows, steps)?;
+    fib.fill_all(alloc, rows, learned, steps)?;
     Ok(fib)
 }

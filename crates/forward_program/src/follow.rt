@@ -1,4 +1,5 @@
-//! How the forwarding state follows a change of rows: the places of what was are emptied, and then what is is put.
+//! How the forwarding state follows a change: the places of what was in the rows are emptied, then what is in them is put, and
+//! last the learnt list is asked for each address that the change may concern.
 
 ghost use Rattle.std.specs.Prelude.{◌≡◌, ℕ, List, [], ◌∷◌, true, false, Some, flat_map, option_map, IfSome, OnOk};
 ghost use Rattle.std.specs.List.{list_all, list_any};
@@ -14,7 +15,9 @@ ghost use Rattle.forward_program.specs.declared.spots.Part.TheVariants as part;
 ghost use Rattle.forward_program.specs.Readings.{own_address, number_and_id, is_vlan};
 ghost use Rattle.forward_program.specs.Built.{IsIn};
 ghost use Rattle.forward_program.specs.Shown.{pair_entries, row_entries, shown};
-ghost use Rattle.forward_program.specs.Follows.{entries_if, entries_before, entries_after, was_row, places, both_of, port_places, IsBound, IsCleared, tunnel_ip, moves_own};
+ghost use Rattle.forward_program.specs.Follows.{entries_if, entries_before, entries_after, was_row, places, both_of, port_places, IsBound, IsCleared, AreMoved, tunnel_ip, moves_own};
+ghost use Rattle.mac_learning.specs.declared.Learnt.{Learnt as Entry};
+ghost use Rattle.mac_learning.specs.Learning.{IsOnce};
 ghost use Rattle.forward_program.specs.Same.{same_number};
 
 use crate::fib::Fib;
@@ -23,6 +26,7 @@ use crate::readings::{
     vlan_pairs,
 };
 use crate::spots::{Part, Spot};
+use mac_learning::{Learned, Learnt};
 use ovsdb_values::Atom;
 use std::alloc::Global;
 use vtep_base::{Ipv4, Ledger, Name, OutOfMemory, RowId, Steps, Vlan};
@@ -319,21 +323,28 @@ impl<L: Ledger> Fib<L> {
         Ok(())
     }
 
-    /// Makes it the state of the rows after a change that keeps the gateway's own address.
+    /// Makes it the state after a change that keeps the gateway's own address. What a remote row had is put anew before the learnt
+    /// list is asked for its address.
     pub(crate) fn follow(
         &mut self,
         alloc: Global,
         own: Ipv4,
+        learned: &Learned,
         change: &[RowChange],
+        moved: &[Learnt],
         steps: &mut Steps<L>,
     ) -> Result<(), OutOfMemory>
-        ensures state { (before now : AllRows) → Sound before → IsRows now → Sound now
-            → own_address now ≡ Some own → list_any moves_own change.now ≡ false
-            → change.now ≡ changes before now → self.old.entries ≡ shown before
-            → OnOk result (self.new.entries ≡ shown now) }
+        ensures state { (before now : AllRows) → (known : List Entry) → Sound before
+            → IsRows now → Sound now → own_address now ≡ Some own
+            → list_any moves_own change.now ≡ false → change.now ≡ changes before now
+            → IsOnce known → IsOnce learned.now.entries
+            → AreMoved known learned.now.entries moved.now
+            → self.old.entries ≡ shown before known
+            → OnOk result (self.new.entries ≡ shown now learned.now.entries) }
         ensures same { self.new.broken ≡ self.old.broken }
     {
         self.clear_rows(own, change, steps);
-        self.put_rows(alloc, own, change, steps)
+        self.put_rows(alloc, own, change, steps)?;
+        self.ask_all(learned, change, moved, steps)
     }
 }

@@ -1,12 +1,14 @@
 //! Where a frame goes by the forwarding state.
 
-ghost use Rattle.std.specs.Prelude.{◌≡◌, ◌++◌, [], ◌∷◌, false, None, IfOk, IsOk, OnOk, OnErr, ◌≤◌, ◌<◌, ◌+◌, ◌^◌, length, count_by};
+ghost use Rattle.std.specs.Prelude.{◌≡◌, ◌++◌, List, [], ◌∷◌, false, None, IfOk, IsOk, OnOk, OnErr, ◌≤◌, ◌<◌, ◌+◌, ◌^◌, length, count_by};
 ghost use Rattle.vtep_base.specs.Addresses.{be};
 ghost use Rattle.vtep_rows.specs.Rows.{Rows as AllRows, IsRows};
 ghost use Rattle.vtep_rows.specs.Sound.{Sound};
 ghost use Rattle.replication.specs.Targets.{targets};
 ghost use Rattle.forward_program.specs.Built.{built};
 ghost use Rattle.forward_program.specs.Shown.{shown};
+ghost use Rattle.mac_learning.specs.declared.Learnt.{Learnt};
+ghost use Rattle.mac_learning.specs.Learning.{IsOnce};
 ghost use Rattle.forward_program.specs.Joins.{flood_at, mode_at, addresses_at};
 ghost use Rattle.forward_program.specs.Hop.{destination, source, but, group_targets, flooded, tunnelled, place_of, ports_to, addresses_to, sent_on, hop, ways_at, ways_of};
 ghost use Rattle.forward_program.specs.HopIs.{HopIs};
@@ -344,10 +346,10 @@ impl<L: Ledger> Fib<L> {
         requires going { self.now.broken ≡ false }
         ensures way { IfOk result (λ outcome. HopIs outcome out.new
             (hop (ways_at self.now.entries) origin inner.now)) }
-        // Of sound rows it goes where the facts say that are built from the rows.
-        ensures built { (r : AllRows) → IsRows r → Sound r → self.now.entries ≡ shown r
-            → IfOk result (λ outcome. HopIs outcome out.new
-            (hop (ways_of (built r)) origin inner.now)) }
+        // Of sound rows it goes where the facts say that are built from the rows and the learnt addresses.
+        ensures built { (r : AllRows) → (l : List Learnt) → IsRows r → Sound r → IsOnce l
+            → self.now.entries ≡ shown r l → IfOk result (λ outcome. HopIs outcome out.new
+            (hop (ways_of (built r l)) origin inner.now)) }
         ensures kept { KeepsRoom out.old out.new }
         // Where there is room it takes no memory.
         ensures fits { HasRoom self.now.entries out.old → IsOk result }

@@ -1,4 +1,4 @@
-//! The forwarding state of a gateway, made of its rows, and where it sends frames.
+//! The forwarding state of a gateway, made of its rows and learnt addresses, and where it sends frames.
 #![tactic(auto)]
 
 mod facts;
@@ -8,6 +8,7 @@ mod held;
 mod hop;
 mod hops;
 mod laws;
+mod learnt;
 mod looks;
 mod readings;
 mod sent;

@@ -1,6 +1,6 @@
 //! What the forwarding state says, read off its entries.
 
-ghost use Rattle.std.specs.Prelude.{◌≡◌, ◌≤◌, ◌<◌, ◌+◌, length, vec_len, option_map, vec_capacity, MatchResult, Some, IfOk, OnOk, OnErr, ◌↔◌, false};
+ghost use Rattle.std.specs.Prelude.{◌≡◌, ◌≤◌, ◌<◌, ◌+◌, List, length, vec_len, option_map, vec_capacity, MatchResult, Some, IfOk, OnOk, OnErr, ◌↔◌, false};
 ghost use Rattle.std.specs.List.{filter_map};
 ghost use Rattle.std.specs.Ordering.{nat_cmp};
 ghost use Rattle.std.specs.BTreeSet.{insert_key};
@@ -11,6 +11,8 @@ ghost use Rattle.forward_program.specs.declared.facts.Fact.{Fact as SomeFact};
 ghost use Rattle.forward_program.specs.declared.facts.Place.{Place as SomePlace};
 ghost use Rattle.forward_program.specs.Built.{IsIn, AreApart, acl_rows, built};
 ghost use Rattle.forward_program.specs.Shown.{shown};
+ghost use Rattle.mac_learning.specs.declared.Learnt.{Learnt};
+ghost use Rattle.mac_learning.specs.Learning.{IsOnce};
 ghost use Rattle.forward_program.specs.Joins.{part_step, step_of, is_bound_at, bound_at, network_at, vni_at, mode_at, address_at, addresses_at, locators_at, place_by, place_at, found_at, flood_at, part_fact, fact_at, facts_of};
 ghost use Rattle.forward_program.specs.Inserts.{InsertsAt};
 
@@ -161,14 +163,14 @@ impl<L: Ledger> Fib<L> {
         }
     }
 
-    /// Where an address of a bound switch is. Takes no memory.
+    /// Where an address is: a learnt one, or one of a bound switch behind another gateway. Takes no memory.
     pub fn find(&self, switch: RowId, mac: Mac) -> Option<Place>
         requires going { self.now.broken ≡ false }
         ensures place { result ≡ found_at self.now.entries switch mac }
-        // Of sound rows it is the place that is built from the rows.
-        ensures built { (r : AllRows) → IsRows r → Sound r → self.now.entries ≡ shown r
-            → (place : SomePlace) → (result ≡ Some place)
-            ↔ IsIn (Fact.Mac switch mac place) (built r) }
+        // Of sound rows it is the place that is built from the rows and the learnt addresses.
+        ensures built { (r : AllRows) → (l : List Learnt) → IsRows r → Sound r → IsOnce l
+            → self.now.entries ≡ shown r l → (place : SomePlace) → (result ≡ Some place)
+            ↔ IsIn (Fact.Mac switch mac place) (built r l) }
     {
         self.found(switch, mac)
     }
@@ -344,9 +346,10 @@ impl<L: Ledger> Fib<L> {
         requires going { self.now.broken ≡ false }
         ensures order { IfOk result (λ facts. facts ≡ facts_of self.now.entries) }
         ensures once { IfOk result AreApart }
-        // Of sound rows they are those that are built from the rows.
-        ensures built { (r : AllRows) → IsRows r → Sound r → self.now.entries ≡ shown r
-            → IfOk result (λ facts. (f : SomeFact) → IsIn f facts ↔ IsIn f (built r)) }
+        // Of sound rows they are those that are built from the rows and the learnt addresses.
+        ensures built { (r : AllRows) → (l : List Learnt) → IsRows r → Sound r → IsOnce l
+            → self.now.entries ≡ shown r l
+            → IfOk result (λ facts. (f : SomeFact) → IsIn f facts ↔ IsIn f (built r l)) }
     {
         self.list_facts(alloc)
     }

@@ -2,6 +2,7 @@
 
 use crate::faults::CaseFault;
 use forward_program::{Fact, Fib, Place, build, own_address};
+use mac_learning::{Learned, Learnt};
 use std::alloc::Global;
 use vtep_base::{Bytes, Ipv4, Mac, Plain, RowId, Steps};
 use vtep_rows::{Rows, changes};
@@ -95,8 +96,33 @@ pub fn say_facts(alloc: Global, fib: &Fib<Plain>, answer: &mut Bytes) -> Result<
     Ok(())
 }
 
-/// The forwarding state of rows, where they are sound.
-pub fn sound_state(alloc: Global, rows: &Rows) -> Result<Fib<Plain>, CaseFault> {
+/// The rows and the learnt addresses of a gateway.
+#[derive(Drop)]
+pub struct Known {
+    pub rows: Rows,
+    pub learned: Learned,
+}
+
+impl Known {
+    /// No address is learnt.
+    pub fn new(alloc: Global, rows: Rows) -> Known {
+        Known {
+            rows,
+            learned: Learned::new(alloc, 2048),
+        }
+    }
+
+    pub fn copy(&self, alloc: Global) -> Result<Known, CaseFault> {
+        Ok(Known {
+            rows: self.rows.copy(alloc)?,
+            learned: self.learned.copy()?,
+        })
+    }
+}
+
+/// The forwarding state, where the rows are sound.
+pub fn sound_state(alloc: Global, known: &Known) -> Result<Fib<Plain>, CaseFault> {
+    let rows = &known.rows;
     let Ok(()) = rows.check() else {
         return Err(CaseFault::Form);
     };
@@ -104,23 +130,25 @@ pub fn sound_state(alloc: Global, rows: &Rows) -> Result<Fib<Plain>, CaseFault> 
         return Err(CaseFault::Form);
     }
     let mut steps = Steps::new(Plain);
-    Ok(build(alloc, rows, &mut steps)?)
+    Ok(build(alloc, rows, &known.learned, &mut steps)?)
 }
 
-/// Adds the facts of the state of these rows.
-pub fn built(alloc: Global, rows: &Rows, answer: &mut Bytes) -> Result<(), CaseFault> {
-    let fib = sound_state(alloc, rows)?;
+/// Adds the facts of the state.
+pub fn built(alloc: Global, known: &Known, answer: &mut Bytes) -> Result<(), CaseFault> {
+    let fib = sound_state(alloc, known)?;
     say_facts(alloc, &fib, answer)
 }
 
-/// Adds the facts of the state that follows from the one before to these rows.
+/// Adds the facts of the state that follows from the one before, where these addresses came, went or moved.
 pub fn applied(
     alloc: Global,
-    before: &Rows,
-    rows: &Rows,
+    before: &Known,
+    known: &Known,
+    moved: &[Learnt],
     answer: &mut Bytes,
 ) -> Result<(), CaseFault> {
     let mut fib = sound_state(alloc, before)?;
+    let rows = &known.rows;
     let Ok(()) = rows.check() else {
         return Err(CaseFault::Form);
     };
@@ -128,7 +156,7 @@ pub fn applied(
         return Err(CaseFault::Form);
     }
     let mut steps = Steps::new(Plain);
-    let change = changes(alloc, before, rows)?;
-    fib.apply(alloc, rows, &change, &mut steps)?;
+    let change = changes(alloc, &before.rows, rows)?;
+    fib.apply(alloc, rows, &known.learned, &change, moved, &mut steps)?;
     say_facts(alloc, &fib, answer)
 }

@@ -1,13 +1,12 @@
 //! Where frames go by the forwarding state of rows.
 
-use crate::facts::sound_state;
+use crate::facts::{Known, sound_state};
 use crate::faults::CaseFault;
 use crate::lines::{bytes, parts, say};
 use ether_frames::read;
 use forward_program::{Hops, Origin, Outcome};
 use std::alloc::Global;
 use vtep_base::{Bytes, Inner, Name, Plain, Vlan, Vni};
-use vtep_rows::Rows;
 
 fn outcome_text(outcome: Outcome) -> &'static str {
     match outcome {
@@ -40,12 +39,12 @@ fn say_hops(hops: &Hops<Plain>, answer: &mut Bytes) -> Result<(), CaseFault> {
 
 fn hop(
     alloc: Global,
-    rows: &Rows,
+    known: &Known,
     origin: Origin,
     inner: &Inner<'_>,
     answer: &mut Bytes,
 ) -> Result<(), CaseFault> {
-    let fib = sound_state(alloc, rows)?;
+    let fib = sound_state(alloc, known)?;
     if fib.broken() {
         return Err(CaseFault::Form);
     }
@@ -63,7 +62,7 @@ fn vlan_of(word: &str) -> Result<Vlan, CaseFault> {
 /// Adds where a frame without tag goes: `PORT VLAN FRAME`, of one that enters at a port.
 pub fn from_port(
     alloc: Global,
-    rows: &Rows,
+    known: &Known,
     line: &str,
     answer: &mut Bytes,
 ) -> Result<(), CaseFault> {
@@ -75,7 +74,7 @@ pub fn from_port(
     };
     let bytes = bytes(alloc, frame)?;
     match read(bytes.as_slice()) {
-        Ok(frame) => hop(alloc, rows, origin, &frame.inner, answer),
+        Ok(frame) => hop(alloc, known, origin, &frame.inner, answer),
         Err(_) => Err(CaseFault::Form),
     }
 }
@@ -83,7 +82,7 @@ pub fn from_port(
 /// The same of one that comes out of a tunnel: `VNI FRAME`.
 pub fn from_tunnel(
     alloc: Global,
-    rows: &Rows,
+    known: &Known,
     line: &str,
     answer: &mut Bytes,
 ) -> Result<(), CaseFault> {
@@ -93,7 +92,7 @@ pub fn from_tunnel(
     };
     let bytes = bytes(alloc, frame)?;
     match read(bytes.as_slice()) {
-        Ok(frame) => hop(alloc, rows, origin, &frame.inner, answer),
+        Ok(frame) => hop(alloc, known, origin, &frame.inner, answer),
         Err(_) => Err(CaseFault::Form),
     }
 }

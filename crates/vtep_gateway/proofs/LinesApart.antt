@@ -193,7 +193,7 @@ module _ (r : Rows) (rows : IsRows r) (sound : Sound r) where
   -- ---- the facts
 
   abbrev m : Entries
-  m = shown r
+  m = shown r []
 
   at_place : (f : Fact) → IsIn f (facts_of m) → fact_at m (spot_of f) ≡ Some f
   at_place f is = let k = in_picked (fact_at m) f (maps.keys m) is in ap (fact_at m) (its_place m k.0 f k.2) ∙ k.2

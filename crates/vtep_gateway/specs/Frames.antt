@@ -1,5 +1,5 @@
 -- What a gateway does with the frames of its ports (IEEE 802.3) and with the packets of the underlay (RFC 7348).
-use Rattle.std.specs.Prelude.{ℕ, ◌==◌, if◌then◌else◌, map, Option, Some, None, is_some, Result, Ok, Err}
+use Rattle.std.specs.Prelude.{ℕ, ◌==◌, if◌then◌else◌, [], map, Option, Some, None, is_some, Result, Ok, Err}
 use Rattle.vtep_base.specs.Reading.{Bytes}
 use Rattle.ether_frames.specs.declared.FrameFault.{FrameFault}
 use Rattle.ether_frames.specs.Frames.{frame_of}
@@ -22,7 +22,7 @@ use Rattle.vtep_gateway.specs.Ports.{port_named}
 
 -- where a frame goes by the facts that are built from the rows
 abbrev pub way : Rows → Origin → Bytes → Way
-way r from inner = hop (ways_of (built r)) from inner
+way r from inner = hop (ways_of (built r [])) from inner
 
 abbrev pub why_nowhere : Outcome → Option Reason
 why_nowhere outcome.Done = None

@@ -10,6 +10,7 @@ ghost use Rattle.vtep_gateway.specs.Settled.{IsSettled};
 ghost use Rattle.vtep_gateway.specs.Ready.{fib_of};
 
 use forward_program::Fib;
+use mac_learning::Learned;
 use std::alloc::Global;
 use vtep_base::{Ledger, OutOfMemory, Steps};
 use vtep_rows::{Change, Database, Rows, Rule};
@@ -67,7 +68,7 @@ pub(crate) fn commit_unchecked(
     database.commit(alloc)
 }
 
-/// The forwarding state follows a commit that led to these rows by this change.
+/// The forwarding state follows a commit that led to these rows by this change. No address is learnt.
 pub(crate) fn follow<L: Ledger>(
     alloc: Global,
     rows: &Rows,
@@ -80,5 +81,6 @@ pub(crate) fn follow<L: Ledger>(
     ensures { (before : AllRows) → IsSettled before → change.now ≡ changes before rows.now
         → fib.old ≡ fib_of before → OnOk result (fib.new ≡ fib_of rows.now) }
 {
-    fib.apply(alloc, rows, change, steps)
+    let nothing = Learned::new(alloc, 0);
+    fib.apply(alloc, rows, &nothing, change, &[], steps)
 }

@@ -1,11 +1,13 @@
 //! Frames that enter at ports, and packets from the underlay.
 
-ghost use Rattle.std.specs.Prelude.{◌≡◌, IfOk};
+ghost use Rattle.std.specs.Prelude.{◌≡◌, false, IfOk};
+ghost use Rattle.vtep_rows.specs.Rows.{Rows as AllRows};
 ghost use Rattle.vxlan_frames.specs.Packets.{IsInner};
 ghost use Rattle.forward_program.specs.Readings.{own_ip};
 ghost use Rattle.vtep_gateway.specs.Settled.{IsSettled};
 ghost use Rattle.vtep_gateway.specs.Ready.{fib_of};
-ghost use Rattle.vtep_gateway.specs.Frames.{why_nowhere, forwarded, frame_answer, packet_answer};
+ghost use Rattle.forward_program.specs.HopIs.{HopIs};
+ghost use Rattle.vtep_gateway.specs.Frames.{way, why_nowhere, forwarded, frame_answer, packet_answer};
 ghost use Rattle.ether_frames.specs.Frames.{frame_of};
 ghost use Rattle.vxlan_frames.specs.Packets.{packet_of};
 
@@ -36,6 +38,20 @@ fn why_nowhere(outcome: Outcome) -> Option<Reason>
     }
 }
 
+/// Where a frame goes.
+fn hop<L: Ledger>(
+    fib: &Fib<L>,
+    hops: &mut Hops<L>,
+    origin: Origin,
+    inner: &Inner<'_>,
+) -> Result<Outcome, OutOfMemory>
+    requires going { fib.now.broken ≡ false }
+    ensures { (r : AllRows) → IsSettled r → fib.now ≡ fib_of r → IfOk result
+        (λ outcome. HopIs outcome hops.new (way r origin inner.now)) }
+{
+    fib.hop(origin, inner, hops)
+}
+
 /// A frame goes where the forwarding state says, or nowhere.
 fn forward<L: Ledger>(
     alloc: Global,
@@ -50,7 +66,7 @@ fn forward<L: Ledger>(
     requires frame { IsInner inner.now }
     ensures { IfOk result (λ answer. answer ≡ forwarded rows.now origin inner.now) }
 {
-    let outcome = fib.hop(origin, inner, hops)?;
+    let outcome = hop(fib, hops, origin, inner)?;
     if let Some(why) = why_nowhere(outcome) {
         return Ok(Answer::dropped(alloc, why));
     }

@@ -1,6 +1,6 @@
 //! A gateway and its step.
 
-ghost use Rattle.std.specs.Prelude.{◌≡◌, ◌++◌, true, false, is_some, IfOk, OnOk, OnErr};
+ghost use Rattle.std.specs.Prelude.{◌≡◌, ◌++◌, [], true, false, is_some, IfOk, OnOk, OnErr};
 ghost use Rattle.forward_program.specs.Joins.{facts_of};
 ghost use Rattle.forward_program.specs.Shown.{shown};
 ghost use Rattle.forward_program.specs.Readings.{own_ip};
@@ -104,7 +104,7 @@ impl<L: Ledger> Gateway<L> {
     pub fn show(&self, out: &mut Bytes) -> Result<(), OutOfMemory>
         requires going { self.now.stopped ≡ false }
         ensures ok { OnOk result (out.new ≡ out.old ++ show_text self.now.state.vtep.name
-            self.now.state.vtep.rows (facts_of (shown self.now.state.vtep.rows))) }
+            self.now.state.vtep.rows (facts_of (shown self.now.state.vtep.rows []))) }
         ensures err { OnErr result (out.new ≡ out.old) }
     {
         self.running.show(out)

@@ -1,6 +1,6 @@
 //! What a gateway does with events, while it is not stopped.
 
-ghost use Rattle.std.specs.Prelude.{◌≡◌, ◌++◌, IfOk, OnOk, OnErr};
+ghost use Rattle.std.specs.Prelude.{◌≡◌, ◌++◌, [], IfOk, OnOk, OnErr};
 ghost use Rattle.forward_program.specs.Joins.{facts_of};
 ghost use Rattle.forward_program.specs.Shown.{shown};
 ghost use Rattle.vtep_gateway.specs.Gateway.{new_gateway, nothing};
@@ -93,7 +93,7 @@ impl<L: Ledger> Running<L> {
     pub(crate) fn show(&self, out: &mut Bytes) -> Result<(), OutOfMemory>
         requires { IsReady self.now }
         ensures ok { OnOk result (out.new ≡ out.old ++ show_text self.now.state.vtep.name
-            self.now.state.vtep.rows (facts_of (shown self.now.state.vtep.rows))) }
+            self.now.state.vtep.rows (facts_of (shown self.now.state.vtep.rows []))) }
         ensures err { OnErr result (out.new ≡ out.old) }
     {
         let mut text = Bytes::new(self.alloc);
@@ -104,7 +104,7 @@ impl<L: Ledger> Running<L> {
     fn write_facts(&self, out: &mut Bytes) -> Result<(), OutOfMemory>
         requires { IsReady self.now }
         ensures { OnOk result (out.new ≡ out.old ++ show_text self.now.state.vtep.name
-            self.now.state.vtep.rows (facts_of (shown self.now.state.vtep.rows))) }
+            self.now.state.vtep.rows (facts_of (shown self.now.state.vtep.rows []))) }
     {
         show(self.alloc, self.name(), self.rows(), self.fib(), out)
     }

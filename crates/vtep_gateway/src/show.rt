@@ -312,9 +312,9 @@ pub(crate) fn show<L: Ledger>(
 /// A law: of sound rows no two facts of the forwarding state have one place in the text, and the line of each fact stands there.
 pub fn each_fact_has_a_line()
     ensures own { (r : AllRows) → IsRows r → Sound r → (f g : SomeFact)
-        → IsIn f (facts_of (shown r)) → IsIn g (facts_of (shown r)) → key_of r f ≡ key_of r g
+        → IsIn f (facts_of (shown r [])) → IsIn g (facts_of (shown r [])) → key_of r f ≡ key_of r g
         → f ≡ g }
     ensures there { (r : AllRows) → IsRows r → Sound r → (f : SomeFact)
-        → IsIn f (facts_of (shown r)) → maps.get (lines_of r (facts_of (shown r))) (key_of r f)
+        → IsIn f (facts_of (shown r [])) → maps.get (lines_of r (facts_of (shown r []))) (key_of r f)
         ≡ Some (line_of r f) }
 {}
