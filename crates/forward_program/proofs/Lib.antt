@@ -33,3 +33,4 @@ pub mod HopLaws
 pub mod PortLaws
 pub mod WayLaws
 pub mod RoomLaws
+pub mod Ascending

@@ -25,7 +25,7 @@ use Rattle.forward_program.proofs.MapLists.{get_in}
 use Rattle.forward_program.proofs.Columns.{id_is}
 use Rattle.forward_program.proofs.Unique.{bytes_same}
 
-pair_is : (p : Atom × Atom) (m w : ℕ) → number_and_id p ≡ Some (m, w) → p.0 ≡ Integer (pos m)
+pub pair_is : (p : Atom × Atom) (m w : ℕ) → number_and_id p ≡ Some (m, w) → p.0 ≡ Integer (pos m)
 pair_is (Integer (pos n), Id u) m w e = ap (λ o. Integer (pos (number o))) e
   where
     number : Option (ℕ × ℕ) → ℕ
@@ -33,10 +33,10 @@ pair_is (Integer (pos n), Id u) m w e = ap (λ o. Integer (pos (number o))) e
     number (Some x) = x.0
 pair_is p m w e = cc
 
-tie : (n : ℕ) → eq_by_cmp nat_cmp n n ≡ true
+pub tie : (n : ℕ) → eq_by_cmp nat_cmp n n ≡ true
 tie n = (eq_by_cmp_equiv nat_cmp_total).refl n
 
-no_tie : (n m : ℕ) (p : Atom × Atom) → same_atom (Integer (pos n)) p.0 ≡ false → p.0 ≡ Integer (pos m) → eq_by_cmp nat_cmp n m ≡ false
+pub no_tie : (n m : ℕ) (p : Atom × Atom) → same_atom (Integer (pos n)) p.0 ≡ false → p.0 ≡ Integer (pos m) → eq_by_cmp nat_cmp n m ≡ false
 no_tie n m p e is = by (eq_by_cmp nat_cmp n m) refl
   where
     by : (b : Bool) → eq_by_cmp nat_cmp n m ≡ b → b ≡ false

@@ -16,7 +16,7 @@ use Rattle.forward_program.specs.declared.facts.Fact.TheVariants as fact
 use Rattle.forward_program.specs.declared.hops.Origin.{Origin}
 use Rattle.forward_program.specs.declared.hops.Origin.TheVariants as origin
 use Rattle.forward_program.specs.declared.hops.Outcome.{Outcome}
-use Rattle.forward_program.specs.Built.{Binding, bindings, is_bound, if_bound, acl_rows, built}
+use Rattle.forward_program.specs.Built.{IsIn, Binding, bindings, is_bound, if_bound, acl_rows, built}
 use Rattle.forward_program.specs.Spots.{Entries}
 use Rattle.forward_program.specs.Shown.{shown}
 use Rattle.forward_program.specs.Joins.{Port, Bound, bound_in, bound_at, network_at, of_in, is_bound_at}
@@ -51,13 +51,18 @@ module _ (r : Rows) (learnt : List Learnt) (rows : IsRows r) (sound : Sound r) (
   }) s from vni dst src
 
   -- what a port or a network leads to is bound
-  port_bound : (p : Port) (s : ℕ) → option_map (λ (b : Bound). b.switch) (bound_at m p) ≡ Some s → is_bound r s ≡ true
-  port_bound p s e =
+  pub port_binding : (p : Port) (s : ℕ) → option_map (λ (b : Bound). b.switch) (bound_at m p) ≡ Some s → (b : Binding) × IsIn b (bindings r) × (b.port ≡ p.0) × (b.vlan ≡ p.1) × (b.switch ≡ s)
+  port_binding p s e =
       let b = map_of (λ (b : Bound). b.switch) (bound_at m p) s e in
       let h = something m (spot.Port p.0 p.1) (fact.Bind p.0 p.1 b.0.switch (acl_rows b.0.lists)) (ap (option_map (λ (c : Bound). fact.Bind p.0 p.1 c.switch (acl_rows c.lists))) b.1) in
       let x = at_known r learnt rows sound once (spot.Port p.0 p.1) h.0 h.1 in
       let one : Some x.0.switch ≡ Some s = ap (λ o. option_map (λ (c : Bound). c.switch) (bound_in o)) (sym (h.1 ∙ ap Some x.4)) ∙ e in
-      passes_some (λ (c : Binding). c.switch == s) x.0 (bindings r) x.1 ((Decides-eqb x.0.switch s).1 (same_some x.0.switch s one))
+      (x.0, x.1, x.2, x.3, same_some x.0.switch s one)
+
+  port_bound : (p : Port) (s : ℕ) → option_map (λ (b : Bound). b.switch) (bound_at m p) ≡ Some s → is_bound r s ≡ true
+  port_bound p s e =
+      let x = port_binding p s e in
+      passes_some (λ (c : Binding). c.switch == s) x.0 (bindings r) x.1 ((Decides-eqb x.0.switch s).1 x.4)
 
   network_bound : (n s : ℕ) → network_at m n ≡ Some s → is_bound r s ≡ true
   network_bound n s e =

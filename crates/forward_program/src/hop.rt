@@ -39,7 +39,8 @@ fn destination(inner: &Inner<'_>) -> Mac
     mac_of(first)
 }
 
-fn source(inner: &Inner<'_>) -> Mac
+/// The address that a frame comes from.
+pub fn source(inner: &Inner<'_>) -> Mac
     ensures { result ≡ source inner.now }
 {
     let (_, second) = inner.addresses().split_at(6);
@@ -355,6 +356,19 @@ impl<L: Ledger> Fib<L> {
         ensures fits { HasRoom self.now.entries out.old → IsOk result }
     {
         self.hop_from(&origin, inner, out)
+    }
+
+    /// The switch that a VLAN of a port is bound to. Takes no memory.
+    pub fn switch_at(&self, port: Name, vlan: Vlan) -> Option<RowId>
+        ensures switch { result ≡ (ways_at self.now.entries).bound (port, vlan) }
+        // Of sound rows it is the one that the facts say that are built from the rows and the learnt addresses.
+        ensures built { (r : AllRows) → (l : List Learnt) → IsRows r → Sound r → IsOnce l
+            → self.now.entries ≡ shown r l → result ≡ (ways_of (built r l)).bound (port, vlan) }
+    {
+        match self.bound(port, vlan) {
+            Some(bound) => Some(bound.0),
+            None => None,
+        }
     }
 
     fn bindings(&self) -> usize

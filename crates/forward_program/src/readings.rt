@@ -131,7 +131,7 @@ fn value_of<'a>(pairs: &'a [(Atom, Atom)], key: &Atom) -> Option<&'a Atom>
 }
 
 /// The row that a column names at a number.
-fn id_at_key(row: &Row, column: Column, key: u16) -> Option<RowId>
+pub fn id_at_key(row: &Row, column: Column, key: u16) -> Option<RowId>
     ensures { result ≡ id_at_key row.now column key }
 {
     match row.find(column) {
@@ -222,7 +222,8 @@ pub struct Remote {
     pub locator: RowId,
 }
 
-pub(crate) fn read_remote(row: &Row) -> Option<Remote>
+/// The switch, the address and the locator of a row of Ucast_Macs_Remote.
+pub fn read_remote(row: &Row) -> Option<Remote>
     ensures { result ≡ remote_of row.now }
 {
     let switch = id(row, Column::UcastRemoteLogicalSwitch)?;
