@@ -10,7 +10,7 @@ use Rattle.fabric_world.specs.declared.Kind.{Kind}
 use Rattle.fabric_world.specs.declared.Kind.TheVariants as kind
 use Rattle.fabric_world.specs.declared.Instruction.{Instruction}
 use Rattle.fabric_world.specs.Text.{Word, words, bad_byte}
-use Rattle.fabric_world.specs.Lines.{not_zero, session_of, mode_of, hex_of, value_at, by_word, word_at, instruction, known_kind, kind_of, first_word, counted, read_words, printable, read_line}
+use Rattle.fabric_world.specs.Lines.{not_zero, session_of, seconds_of, mode_of, hex_of, value_at, by_word, word_at, instruction, known_kind, kind_of, first_word, counted, read_words, printable, read_line}
 use Rattle.fabric_replay.specs.Seen.{DoesHaveSession}
 
 -- what a step gives that leads on to an answer
@@ -66,6 +66,7 @@ instruction_session kind.Settle ws i e = answer Is _ i e tt
 instruction_session kind.Frame ws i e =
     given Is (word_at name_of ws 1) _ i (λ g eg rest. given Is (word_at name_of ws 2) _ i (λ p ep more. given Is (word_at hex_of ws 3) _ i (λ bytes eb last. answer Is _ i last tt) more) rest) e
 instruction_session kind.Underlay ws i e = given Is (word_at name_of ws 1) _ i (λ g eg rest. given Is (word_at hex_of ws 2) _ i (λ bytes eb last. answer Is _ i last tt) rest) e
+instruction_session kind.Age ws i e = given Is (word_at name_of ws 1) _ i (λ g eg rest. given Is (word_at seconds_of ws 2) _ i (λ n en last. answer Is _ i last tt) rest) e
 instruction_session kind.Rpc ws i e =
     given Is (word_at name_of ws 1) _ i (λ g eg rest. given Is (word_at session_of ws 2) _ i (λ s es more. given Is (word_at hex_of ws 3) _ i (λ bytes eb last. answer Is _ i last (session_at ws 2 s es)) more) rest) e
 instruction_session kind.Hangup ws i e = given Is (word_at name_of ws 1) _ i (λ g eg rest. given Is (word_at session_of ws 2) _ i (λ s es last. answer Is _ i last (session_at ws 2 s es)) rest) e

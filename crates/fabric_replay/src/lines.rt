@@ -2,14 +2,14 @@
 
 ghost use Rattle.std.specs.Prelude.{◌≡◌, ◌≤◌, ◌<◌, map, Ok, Err, None, Some, MatchResult, IfOk, length, slice_get};
 ghost use Rattle.vtep_base.specs.Texts.{name_of, ipv4_of, vni_of, vlan_of};
-ghost use Rattle.fabric_world.specs.Lines.{kind_of, kind_text, arity, mode_of, session_of, hex_of, value_at, word_at, column_at, last_end, counted, instruction, read_words, read_line, first_word, known_kind, only_word, read_packet};
+ghost use Rattle.fabric_world.specs.Lines.{kind_of, kind_text, arity, mode_of, session_of, seconds_of, hex_of, value_at, word_at, column_at, last_end, counted, instruction, read_words, read_line, first_word, known_kind, only_word, read_packet};
 ghost use Rattle.fabric_world.specs.Text as text;
 ghost use Rattle.fabric_replay.specs.Seen.{seen, Reads, AllFit};
 
 use crate::words::{Word, bad_byte};
 use fabric_world::{
-    FrameLine, GatewayLine, HangupLine, Instruction, Intent, Kind, Line, PortLine, Refusal,
-    RpcLine, SettleLine, ShowLine, UnderlayLine, UnportLine,
+    AgeLine, FrameLine, GatewayLine, HangupLine, Instruction, Intent, Kind, Line, PortLine,
+    Refusal, RpcLine, SettleLine, ShowLine, UnderlayLine, UnportLine,
 };
 use hex::FromHexError;
 use std::alloc::Global;
@@ -51,7 +51,7 @@ fn refusal(column: usize, reason: LineReason) -> Refusal
 }
 
 /// All kinds of lines.
-const KINDS: [Kind; 12] = [
+const KINDS: [Kind; 13] = [
     Kind::Gateway,
     Kind::Port,
     Kind::Unport,
@@ -60,6 +60,7 @@ const KINDS: [Kind; 12] = [
     Kind::Settle,
     Kind::Frame,
     Kind::Underlay,
+    Kind::Age,
     Kind::Rpc,
     Kind::Hangup,
     Kind::Show,
@@ -79,6 +80,7 @@ fn kind_text(kind: Kind) -> &'static [u8]
         Kind::Settle => b"settle",
         Kind::Frame => b"frame",
         Kind::Underlay => b"underlay",
+        Kind::Age => b"age",
         Kind::Rpc => b"rpc",
         Kind::Hangup => b"hangup",
         Kind::Show => b"show",
@@ -104,7 +106,8 @@ fn arity(kind: Kind) -> usize
     ensures few { result ≤ 8 }
 {
     match kind {
-        Kind::Gateway | Kind::Port | Kind::Unport | Kind::Underlay | Kind::Hangup => 2,
+        Kind::Gateway | Kind::Port | Kind::Unport => 2,
+        Kind::Underlay | Kind::Age | Kind::Hangup => 2,
         Kind::Switch | Kind::Frame | Kind::Rpc => 3,
         Kind::Bind => 4,
         Kind::Show => 1,
@@ -185,6 +188,16 @@ fn session_at(words: &[Word<'_>], place: usize) -> Result<u32, Refusal>
     }
 }
 
+fn seconds_at(words: &[Word<'_>], place: usize) -> Result<u32, Refusal>
+    ensures { result ≡ word_at seconds_of (map seen words.now) place }
+{
+    let word = word(words, place)?;
+    match parse_number(word.bytes, u32::MAX) {
+        Ok(seconds) => Ok(seconds),
+        Err(_) => Err(refusal(word.column, LineReason::Value)),
+    }
+}
+
 /// The bytes that a hexadecimal word at a column stands for; `-` is no bytes.
 fn hex_value(alloc: Global, column: usize, word: &[u8]) -> Result<Bytes, LineFault>
     ensures { Reads result (value_at column (hex_of word.now)) }
@@ -250,6 +263,7 @@ fn instruction(alloc: Global, kind: Kind, words: &[Word<'_>]) -> Result<Instruct
         Kind::Settle => Ok(Instruction::Do(Line::Settle(SettleLine))),
         Kind::Frame => frame(alloc, words),
         Kind::Underlay => underlay(alloc, words),
+        Kind::Age => age(words),
         Kind::Rpc => rpc(alloc, words),
         Kind::Hangup => hangup(words),
         Kind::Show => show(words),
@@ -320,6 +334,14 @@ fn underlay(alloc: Global, words: &[Word<'_>]) -> Result<Instruction, LineFault>
     let g = name_at(words, 1)?;
     let hex = hex_at(alloc, words, 2)?;
     Ok(Instruction::Do(Line::Underlay(UnderlayLine { g, hex })))
+}
+
+fn age(words: &[Word<'_>]) -> Result<Instruction, LineFault>
+    ensures { Reads result (instruction Kind.Age (map seen words.now)) }
+{
+    let g = name_at(words, 1)?;
+    let seconds = seconds_at(words, 2)?;
+    Ok(Instruction::Do(Line::Age(AgeLine { g, seconds })))
 }
 
 fn rpc(alloc: Global, words: &[Word<'_>]) -> Result<Instruction, LineFault>

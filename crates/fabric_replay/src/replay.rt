@@ -3,7 +3,7 @@
 ghost use Rattle.std.specs.Prelude.{◌≡◌, ◌<◌, ◌≤◌, ◌+◌, ◌++◌, ◌^◌, [], List, length, map, Option, Some, None, OnOk, IfNone};
 ghost use Rattle.std.specs.String.{string_bytes};
 ghost use Rattle.vtep_base.specs.Outside.{SourceState, SinkState, Rose};
-ghost use Rattle.fabric_world.specs.Delivery.{DeliversBound};
+ghost use Rattle.fabric_world.specs.Delivery.{SettledDelivers};
 ghost use Rattle.fabric_world.specs.ReadLines.{ReadLinesAreLines};
 ghost use Rattle.fabric_world.specs.Script.{Stopped, Short, Ended, Full, form_of, usage_line, reason_text, refusal_text, Replays, AnswersForm, Ran, Completes};
 ghost use Rattle.fabric_replay.specs.Stages.{stage_of, IsUnread};
@@ -271,7 +271,7 @@ pub fn run<S: Source, K: Sink>(
         (record { written = K.written sink.old; faults = K.faults sink.old })
         (record { written = K.written sink.new; faults = K.faults sink.new }) result }
     // What the script's definition writes for a frame, where there is one gateway.
-    ensures delivers { DeliversBound }
+    ensures delivers { SettledDelivers }
     // Each line that is read of a script is one of those that `delivers` speaks of.
     ensures lines { ReadLinesAreLines }
 {

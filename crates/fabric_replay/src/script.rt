@@ -116,6 +116,7 @@ fn call(fabric: &mut Fabric, line: &Line, out: &mut Bytes) -> Result<(), FabricF
         Line::Intend(line) => fabric.intend(line, out),
         Line::Frame(line) => fabric.frame(line, out),
         Line::Underlay(line) => fabric.underlay(line, out),
+        Line::Age(line) => fabric.age(line, out),
         Line::Rpc(line) => fabric.rpc(line, out),
         Line::Hangup(line) => fabric.hangup(line, out),
         Line::Settle(line) => fabric.settle(line, out),

@@ -1,16 +1,18 @@
--- Addresses of a frame, as bytes and as numbers, and the packets that carry it.
+-- Addresses of a frame, as bytes and as numbers.
 use Rattle.std.proofs.Common.{◌≡◌, ◌≤◌, ◌<◌, ◌+◌, ◌*◌, ◌/◌, ◌%◌, ◌^◌, inl, inr, ℕ, true, false, [], ◌∷◌, ◌++◌, length, take, drop, refl, sym, ap, subst, ◌∙◌, arith}
-use Rattle.std.specs.Prelude.{◌==◌, fold}
+use Rattle.std.specs.Prelude.{◌==◌, nat_lt, not, slice_index, fold}
+use Rattle.std.proofs.lemmas.Bool.Decides.{nat_tests}
 use Rattle.std.proofs.lemmas.List.{take-append-drop, length-take-le, length-drop}
 use Rattle.vtep_base.specs.Reading.{Bytes}
 use Rattle.vtep_base.specs.Addresses.{be}
+use Rattle.vtep_base.specs.Addresses as addresses
 use Rattle.ether_frames.specs.Frames.{Carries}
-use Rattle.vxlan_frames.specs.Packets.{canon}
 use Rattle.forward_program.specs.Hop as hop
 use Rattle.forward_program.proofs.HopLaws.{number_same, number_itself}
+use Rattle.local_tables.specs.LocalRows.{is_individual}
+use Rattle.vtep_rows.proofs.Entries.{both}
 use Rattle.vtep_gateway.proofs.FrameInner.{carried_inner}
-use Rattle.fabric_world.specs.Happenings as happenings
-use Rattle.fabric_world.specs.Logical.{destination, source}
+use Rattle.fabric_world.specs.Logical.{destination, source, is_group}
 use Rattle.fabric_world.specs.ReadLines.{AreBytes}
 
 -- ---- bytes
@@ -47,6 +49,25 @@ be_apart (x ∷ a) (y ∷ b) m n long p q e =
     let head : x ≡ y = omega (arith, same, small, also) in
     (omega (arith, same, small, also), λ i. head i ∷ rest.1 i)
 
+-- ---- the six bytes of an address
+
+pub record IsAddress (bytes : Bytes) : Type 0 where
+  pub small : be bytes < 2 ^ 48
+  pub first : be bytes / 2 ^ 40 ≡ slice_index bytes 0
+
+six : (bytes : Bytes) → length bytes ≡ 6 → AreBytes bytes → IsAddress bytes
+six (a ∷ b ∷ c ∷ d ∷ e ∷ f ∷ []) long are = of_six a b c d e f are.0 are.1.0 are.1.1.0 are.1.1.1.0 are.1.1.1.1.0 are.1.1.1.1.1.0
+  where
+    of_six : (a b c d e f : ℕ) → a < 256 → b < 256 → c < 256 → d < 256 → e < 256 → f < 256 → IsAddress (a ∷ b ∷ c ∷ d ∷ e ∷ f ∷ [])
+    of_six a b c d e f p q r s t u = record { small = omega (arith, p, q, r, s, t, u); first = omega (arith, p, q, r, s, t, u) }
+six [] long are = absurd (omega (arith, long))
+six (a ∷ []) long are = absurd (omega (arith, long))
+six (a ∷ b ∷ []) long are = absurd (omega (arith, long))
+six (a ∷ b ∷ c ∷ []) long are = absurd (omega (arith, long))
+six (a ∷ b ∷ c ∷ d ∷ []) long are = absurd (omega (arith, long))
+six (a ∷ b ∷ c ∷ d ∷ e ∷ []) long are = absurd (omega (arith, long))
+six (a ∷ b ∷ c ∷ d ∷ e ∷ f ∷ g ∷ bytes) long are = absurd (omega (arith, long))
+
 module _ (bytes inner : Bytes) (vlan : ℕ) (carries : Carries bytes vlan inner) (are : AreBytes bytes) where
   long : 14 ≤ length inner
   long = (carried_inner bytes inner vlan carries).least
@@ -73,16 +94,23 @@ module _ (bytes inner : Bytes) (vlan : ℕ) (carries : Carries bytes vlan inner)
   pub to_itself : (hop.destination inner == hop.source inner) ≡ true → destination inner ≡ source inner
   to_itself e = (be_apart (destination inner) (source inner) 0 0 (first_six ∙ sym second_six) first_bytes second_bytes (number_same (hop.destination inner) (hop.source inner) e)).1
 
+  -- whether an address is a group's, by its number and by its bytes
+  pub group_is : addresses.is_group (be (destination inner)) ≡ is_group (destination inner)
+  group_is = ap (λ n. n % 2 == 1) (six (destination inner) first_six first_bytes).first
+
+  pub source_group_is : addresses.is_group (be (source inner)) ≡ is_group (source inner)
+  source_group_is = ap (λ n. n % 2 == 1) (six (source inner) second_six second_bytes).first
+
+  -- an address of 48 bits
+  pub source_single : addresses.is_group (hop.source inner) ≡ false → is_individual (hop.source inner) ≡ true
+  source_single alone = both (nat_lt (hop.source inner) (2 ^ 48)) (not (addresses.is_group (hop.source inner))) (below (be (source inner)) (six (source inner) second_six second_bytes).small) (ap not alone)
+    where
+      below : (n : ℕ) → n < 2 ^ 48 → nat_lt n (2 ^ 48) ≡ true
+      below n small = grind (arith, nat_tests, small)
+
 pub to_another : (inner : Bytes) → (hop.destination inner == hop.source inner) ≡ false → destination inner ≡ source inner → ⊥
 to_another inner e same =
     let numbers : hop.destination inner ≡ hop.source inner = ap be same in
     let equal : (hop.destination inner == hop.source inner) ≡ true = ap (λ n. hop.destination inner == n) (sym numbers) ∙ number_itself (hop.destination inner) in
     let clash : true ≡ false = sym equal ∙ e in
     cc
-
--- ---- packets
-
-pub destination_is : (src dst vni : ℕ) (inner : Bytes) → dst < 2 ^ 32 → happenings.destination (canon src dst vni inner) ≡ dst
-unfolding canon
-destination_is src dst vni inner small =
-    let e : 65536 * (256 * (dst / 16777216 % 256) + dst / 65536 % 256) + (256 * (dst / 256 % 256) + dst % 256) ≡ dst = omega (arith, small) in e

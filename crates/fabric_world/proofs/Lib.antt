@@ -6,8 +6,14 @@ pub mod LineRanges
 pub mod Reached
 pub mod Switches
 pub mod Facts
-pub mod Addresses
+pub mod Quiet
+pub mod SameRows
+pub mod Taught
+pub mod LearntBindings
+pub mod Alone
+pub mod Teaching
 pub mod Ports
 pub mod Frames
 pub mod DeliveryLaw
 pub mod Worked
+pub mod SettledWorked

@@ -11,7 +11,7 @@ use Rattle.fabric_world.specs.declared.Kind.TheVariants as kind
 use Rattle.fabric_world.specs.declared.Instruction.{Instruction}
 use Rattle.fabric_world.specs.declared.Instruction.TheVariants.{Do, End}
 use Rattle.fabric_world.specs.Text.{Word, words, bad_byte}
-use Rattle.fabric_world.specs.Lines.{session_of, mode_of, hex_of, value_at, by_word, word_at, instruction, known_kind, kind_of, first_word, counted, read_words, printable}
+use Rattle.fabric_world.specs.Lines.{session_of, seconds_of, mode_of, hex_of, value_at, by_word, word_at, instruction, known_kind, kind_of, first_word, counted, read_words, printable}
 use Rattle.fabric_world.specs.ReadLines.{AreBytes, IsName, IsSession, IsLine, ReadLinesAreLines}
 use Rattle.fabric_world.proofs.Steps.{same_ok}
 use Rattle.fabric_world.proofs.Ranges.{upto, session_is, ipv4_small, hex_bytes}
@@ -54,6 +54,9 @@ vlan_at ws place vlan e = word_gives (λ n. n < 2 ^ 12) vlan_of (λ word n is. l
 session_at : (ws : List Word) (place s : ℕ) → word_at session_of ws place ≡ Ok s → IsSession s
 session_at ws place s e = word_gives IsSession session_of session_is (slice_get ws place) s e
 
+seconds_at : (ws : List Word) (place n : ℕ) → word_at seconds_of ws place ≡ Ok n → n < 2 ^ 32
+seconds_at ws place n e = word_gives (λ m. m < 2 ^ 32) seconds_of (λ word m is. let most : m ≤ 4294967295 = upto 4294967295 m word is in omega (arith, most)) (slice_get ws place) n e
+
 bytes_at : (ws : List Word) (place : ℕ) (bytes : Bytes) → word_at hex_of ws place ≡ Ok bytes → AreBytes bytes
 bytes_at ws place bytes e = word_gives AreBytes hex_of hex_bytes (slice_get ws place) bytes e
 
@@ -74,6 +77,7 @@ instruction_is kind.Frame ws i e =
     given Is (word_at name_of ws 1) _ i (λ g eg rest. given Is (word_at name_of ws 2) _ i (λ p ep more. given Is (word_at hex_of ws 3) _ i (λ bytes eb last.
     answer _ i last (name_at ws 1 g eg, name_at ws 2 p ep, bytes_at ws 3 bytes eb)) more) rest) e
 instruction_is kind.Underlay ws i e = given Is (word_at name_of ws 1) _ i (λ g eg rest. given Is (word_at hex_of ws 2) _ i (λ bytes eb last. answer _ i last (name_at ws 1 g eg, bytes_at ws 2 bytes eb)) rest) e
+instruction_is kind.Age ws i e = given Is (word_at name_of ws 1) _ i (λ g eg rest. given Is (word_at seconds_of ws 2) _ i (λ n en last. answer _ i last (name_at ws 1 g eg, seconds_at ws 2 n en)) rest) e
 instruction_is kind.Rpc ws i e =
     given Is (word_at name_of ws 1) _ i (λ g eg rest. given Is (word_at session_of ws 2) _ i (λ s es more. given Is (word_at hex_of ws 3) _ i (λ bytes eb last.
     answer _ i last (name_at ws 1 g eg, session_at ws 2 s es, bytes_at ws 3 bytes eb)) more) rest) e

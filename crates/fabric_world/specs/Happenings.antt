@@ -20,7 +20,7 @@ use Rattle.vtep_gateway.specs.declared.Reason.{Reason}
 use Rattle.fabric_world.specs.declared.Fault.{Fault}
 use Rattle.fabric_world.specs.Intentions.{Intention, bytes_cmp}
 use Rattle.fabric_world.specs.Installer.{Peers, peer_in, operations, request_of}
-use Rattle.fabric_world.specs.Outputs.{Output, Message, Failed, Dropped, Out, Lost}
+use Rattle.fabric_world.specs.Outputs.{Output, Message, Failed, Full, Dropped, Out, Lost}
 
 -- the gateways of a fabric, by their names
 abbrev pub Gateways : Type 0
@@ -70,13 +70,17 @@ abbrev pub session_of : Event → ℕ
 session_of (event.Bytes s piece) = s
 session_of _ = 0
 
+-- a source that could not be learnt
+abbrev pub fulls : Bytes → Bool → List Output
+fulls g full = if full then Full g ∷ [] else []
+
 abbrev pub drops : Bytes → Option Reason → List Output
 drops g None = []
 drops g (Some why) = Dropped g why ∷ []
 
--- messages, the session that is refused, why a frame goes nowhere, and the frames that leave
+-- messages, the session that is refused, a source that was not learnt, why a frame goes nowhere, and the frames that leave
 abbrev pub answer_outputs : Bytes → Event → Answer → List Output
-answer_outputs g e a = messages g a.sends ++ (failures g (session_of e) a.failed ++ (drops g a.dropped ++ map (λ o. Out g o.port o.bytes) a.sent.outs))
+answer_outputs g e a = messages g a.sends ++ (failures g (session_of e) a.failed ++ (fulls g a.full ++ (drops g a.dropped ++ map (λ o. Out g o.port o.bytes) a.sent.outs)))
 
 abbrev pub happened : Gateways → Bytes → Event → Step → Happening
 happened gs g e s = record { gateways = maps.insert gs g s.gateway; output = answer_outputs g e s.answer }

@@ -6,6 +6,7 @@ pub mod Installer
 pub mod Happenings
 pub mod World
 pub mod Logical
+pub mod Settled
 pub mod ReadLines
 pub mod Delivery
 pub mod Script

@@ -13,7 +13,7 @@ use Rattle.fabric_world.specs.declared.Refusal.{Refusal}
 use Rattle.fabric_world.specs.declared.Kind.{Kind}
 use Rattle.fabric_world.specs.declared.Kind.TheVariants as kind
 use Rattle.fabric_world.specs.declared.Intent.TheVariants.{Switch, Bind}
-use Rattle.fabric_world.specs.declared.Line.TheVariants.{Gateway, Port, Unport, Intend, Frame, Underlay, Rpc, Hangup, Settle, Show}
+use Rattle.fabric_world.specs.declared.Line.TheVariants.{Gateway, Port, Unport, Intend, Frame, Underlay, Age, Rpc, Hangup, Settle, Show}
 use Rattle.fabric_world.specs.declared.Instruction.{Instruction}
 use Rattle.fabric_world.specs.declared.Instruction.TheVariants.{Do, End}
 use Rattle.fabric_world.specs.Text.{Word, words, bad_byte}
@@ -36,13 +36,14 @@ kind_text kind.Bind = codes "bind"
 kind_text kind.Settle = codes "settle"
 kind_text kind.Frame = codes "frame"
 kind_text kind.Underlay = codes "underlay"
+kind_text kind.Age = codes "age"
 kind_text kind.Rpc = codes "rpc"
 kind_text kind.Hangup = codes "hangup"
 kind_text kind.Show = codes "show"
 kind_text kind.End = codes "end"
 
 abbrev pub kinds : List Kind
-kinds = kind.Gateway ∷ kind.Port ∷ kind.Unport ∷ kind.Switch ∷ kind.Bind ∷ kind.Settle ∷ kind.Frame ∷ kind.Underlay ∷ kind.Rpc ∷ kind.Hangup ∷ kind.Show ∷ kind.End ∷ []
+kinds = kind.Gateway ∷ kind.Port ∷ kind.Unport ∷ kind.Switch ∷ kind.Bind ∷ kind.Settle ∷ kind.Frame ∷ kind.Underlay ∷ kind.Age ∷ kind.Rpc ∷ kind.Hangup ∷ kind.Show ∷ kind.End ∷ []
 
 -- the first of the kinds that has this word
 abbrev pub kind_among : Bytes → List Kind → Option Kind
@@ -62,6 +63,7 @@ arity kind.Bind = 4
 arity kind.Settle = 0
 arity kind.Frame = 3
 arity kind.Underlay = 2
+arity kind.Age = 2
 arity kind.Rpc = 3
 arity kind.Hangup = 2
 arity kind.Show = 1
@@ -78,6 +80,9 @@ not_zero n = if n == 0 then None else Some n
 -- session 0 is the controller's
 abbrev pub session_of : Bytes → Option ℕ
 session_of word = option_and_then not_zero (number_upto (2 ^ 32 - 1) word)
+
+abbrev pub seconds_of : Bytes → Option ℕ
+seconds_of word = number_upto 4294967295 word
 
 -- `-` is no bytes
 abbrev pub hex_of : Bytes → Option Bytes
@@ -130,6 +135,10 @@ instruction kind.Underlay ws = do
   g ← word_at name_of ws 1
   bytes ← word_at hex_of ws 2
   Ok (Do (Underlay (record { g = g; hex = bytes })))
+instruction kind.Age ws = do
+  g ← word_at name_of ws 1
+  n ← word_at seconds_of ws 2
+  Ok (Do (Age (record { g = g; seconds = n })))
 instruction kind.Rpc ws = do
   g ← word_at name_of ws 1
   s ← word_at session_of ws 2

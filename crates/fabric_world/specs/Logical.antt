@@ -1,12 +1,14 @@
 -- The logical networks: where a frame is to be delivered. There are no tunnels, packets or VNIs here.
-use Rattle.std.specs.Prelude.{◌≡◌, ◌≢◌, ◌⊎◌, ℕ, Bool, false, ◌==◌, ◌%◌, List, [], map, take, drop, slice_index}
+use Rattle.std.specs.Prelude.{◌≡◌, ◌≢◌, ◌⊎◌, ◌↔◌, ℕ, Bool, true, false, ◌==◌, ◌%◌, List, map, take, drop, slice_index}
 use Rattle.std.specs.List.{flat_map}
 use Rattle.vtep_base.specs.Reading.{Bytes}
+use Rattle.vtep_base.specs.Addresses.{be}
 use Rattle.vtep_base.specs.declared.bindings.Binding.{Binding}
 use Rattle.ether_frames.specs.Frames.{Carries, tagged}
 use Rattle.vtep_schema.specs.declared.Table.TheVariants.{LogicalSwitch}
 use Rattle.vtep_schema.specs.declared.Column.TheVariants.{LogicalName}
 use Rattle.vtep_rows.specs.Rows.{Rows}
+use Rattle.mac_learning.specs.declared.Learnt.{Learnt}
 use Rattle.forward_program.specs.Built as built
 use Rattle.forward_program.specs.Built.{IsIn}
 use Rattle.vtep_gateway.specs.Gateway.{Gateway}
@@ -16,7 +18,7 @@ use Rattle.fabric_world.specs.World.{World}
 -- finite sets, as lists of their members
 pub record Logical : Type 0 where
   pub bindings : List (Bytes × Binding)  -- a switch's name and a binding
-  pub owners : List (Bytes × Bytes × Binding)  -- an address of a switch, and where it is
+  pub owners : List (Bytes × ℕ × Binding)  -- the number of an address of a switch, and where it is
 
 abbrev pub destination : Bytes → Bytes
 destination inner = take 6 inner
@@ -30,9 +32,9 @@ is_group address = slice_index address 0 % 2 == 1
 
 -- an individual address has an owner on the switch
 abbrev pub Owns : Logical → Bytes → Bytes → Binding → Type 0
-Owns l s address c = (is_group address ≡ false) × IsIn (s, address, c) l.owners
+Owns l s address c = (is_group address ≡ false) × IsIn (s, be address, c) l.owners
 
--- a frame that enters at b leaves at c
+-- a frame that enters at b leaves at c: at an owner of its destination, or where that has none at each other binding
 pub record DeliversOn (l : Logical) (s : Bytes) (b : Binding) (inner : Bytes) (c : Binding) : Type 0 where
   pub enters : IsIn (s, b) l.bindings
   pub to_another : destination inner ≢ source inner
@@ -43,6 +45,14 @@ pub record DeliversOn (l : Logical) (s : Bytes) (b : Binding) (inner : Bytes) (c
 -- bytes that enter at b leave at c as `out`
 abbrev pub Delivers : Logical → Binding → Bytes → Binding → Bytes → Type 0
 Delivers l b bytes c out = (s : Bytes) × (inner : Bytes) × Carries bytes b.vlan inner × DeliversOn l s b inner c × (out ≡ tagged c.vlan inner)
+
+-- what is known after a frame from an address that entered at b: the address is at b alone, unless it is that of a group or there was
+-- no room, and all others are where they were
+pub record Teaches (l m : Logical) (s : Bytes) (b : Binding) (address : Bytes) (full : Bool) : Type 0 where
+  pub bindings : m.bindings ≡ l.bindings
+  pub nothing : (is_group address ≡ true) ⊎ (full ≡ true) → m.owners ≡ l.owners
+  pub there : is_group address ≡ false → full ≡ false → (c : Binding) → Owns m s address c ↔ (c ≡ b)
+  pub others : (t : Bytes) (a : ℕ) (c : Binding) → ((t ≡ s) × (a ≡ be address) → ⊥) → IsIn (t, a, c) m.owners ↔ IsIn (t, a, c) l.owners
 
 -- ---- read off the gateways of a fabric
 
@@ -60,6 +70,16 @@ member g r c = (switch_of r c.switch, place g c)
 abbrev pub members : Bytes × Gateway → List (Bytes × Binding)
 members e = map (member e.0 e.1.vtep.rows) (built.bindings e.1.vtep.rows)
 
--- the bindings of the rows, and no owners
+-- where an address is that a gateway has learnt
+abbrev pub learnt_at : Bytes → Learnt → Binding
+learnt_at g e = record { gateway = g; port = e.port; vlan = e.vlan }
+
+abbrev pub owner : Bytes → Rows → Learnt → Bytes × ℕ × Binding
+owner g r e = (switch_of r e.switch, e.mac, learnt_at g e)
+
+abbrev pub owners : Bytes × Gateway → List (Bytes × ℕ × Binding)
+owners e = map (owner e.0 e.1.vtep.rows) e.1.vtep.learned
+
+-- the bindings of the rows, and the addresses that are learnt at them
 abbrev pub logical_of : World → Logical
-logical_of w = record { bindings = flat_map members w.gateways.list; owners = [] }
+logical_of w = record { bindings = flat_map members w.gateways.list; owners = flat_map owners w.gateways.list }

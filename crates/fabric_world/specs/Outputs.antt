@@ -21,6 +21,7 @@ use Rattle.vtep_gateway.specs.declared.Reason.TheVariants as reason
 pub data Output : Type 0 where
   Message : Bytes → Outgoing → Output  -- the gateway, and what goes to a session
   Failed : Bytes → ℕ → Framing → Output  -- the gateway, and the session that is refused
+  Full : Bytes → Output  -- the gateway, which could not learn a source
   Dropped : Bytes → Reason → Output  -- the gateway, and why a frame or packet goes nowhere
   Out : Bytes → Bytes → Bytes → Output  -- the gateway, the port and the bytes
   Lost : ℕ → Output  -- the address that is nobody's
@@ -70,6 +71,7 @@ reason_words reason.Vni = codes " vni\n" ∷ []
 abbrev pub output_text : Output → Bytes
 output_text (Message g o) = joined (codes "rpc " ∷ g ∷ codes " " ∷ decimal o.session ∷ codes " " ∷ o.bytes ∷ codes "\n" ∷ [])
 output_text (Failed g s why) = joined (codes "failed " ∷ g ∷ codes " " ∷ decimal s ∷ codes " " ∷ framing_kind_text why.kind ∷ codes " " ∷ decimal why.offset ∷ codes "\n" ∷ [])
+output_text (Full g) = joined (codes "full " ∷ g ∷ codes "\n" ∷ [])
 output_text (Dropped g why) = joined (codes "drop " ∷ g ∷ reason_words why)
 output_text (Out g p bytes) = joined (codes "out " ∷ g ∷ codes " " ∷ p ∷ codes " " ∷ hex_word bytes ∷ codes "\n" ∷ [])
 output_text (Lost ip) = joined (codes "lost " ∷ ipv4_text ip ∷ codes "\n" ∷ [])

@@ -5,7 +5,7 @@ use Rattle.vtep_base.specs.Texts.{is_name}
 use Rattle.fabric_world.specs.declared.Intent.{Intent}
 use Rattle.fabric_world.specs.declared.Intent.TheVariants.{Switch, Bind}
 use Rattle.fabric_world.specs.declared.Line.{Line}
-use Rattle.fabric_world.specs.declared.Line.TheVariants.{Gateway, Port, Unport, Intend, Frame, Underlay, Rpc, Hangup, Settle, Show}
+use Rattle.fabric_world.specs.declared.Line.TheVariants.{Gateway, Port, Unport, Intend, Frame, Underlay, Age, Rpc, Hangup, Settle, Show}
 use Rattle.fabric_world.specs.declared.Instruction.TheVariants.{Do}
 use Rattle.fabric_world.specs.Lines.{read_line}
 
@@ -31,6 +31,7 @@ IsLine (Unport l) = IsName l.g × IsName l.p
 IsLine (Intend i) = IsIntent i
 IsLine (Frame l) = IsName l.g × IsName l.p × AreBytes l.hex
 IsLine (Underlay l) = IsName l.g × AreBytes l.hex
+IsLine (Age l) = IsName l.g × (l.seconds < 2 ^ 32)
 IsLine (Rpc l) = IsName l.g × IsSession l.session × AreBytes l.hex
 IsLine (Hangup l) = IsName l.g × IsSession l.session
 IsLine (Settle l) = Unit {0}

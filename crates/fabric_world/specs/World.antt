@@ -52,7 +52,7 @@ touched w = record w { untouched = false }
 
 -- the facts of a gateway's forwarding state, as lines
 abbrev pub shown_at : Gateway → Bytes
-shown_at gateway = show_text gateway.vtep.name gateway.vtep.rows (facts_of (shown gateway.vtep.rows []))
+shown_at gateway = show_text gateway.vtep.name gateway.vtep.rows (facts_of (shown gateway.vtep.rows gateway.vtep.learned))
 
 -- what a line does
 abbrev pub run : World → Line → Result Outcome Fault
@@ -75,6 +75,9 @@ run w (line.Frame l) = do
   Ok (at_gateways w h)
 run w (line.Underlay l) = do
   h ← event_at w.gateways l.g (event.Underlay l.hex)
+  Ok (at_gateways w h)
+run w (line.Age l) = do
+  h ← event_at w.gateways l.g (event.Age l.seconds)
   Ok (at_gateways w h)
 run w (line.Rpc l) = do
   h ← event_at w.gateways l.g (event.Bytes l.session l.hex)

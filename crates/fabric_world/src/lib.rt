@@ -2,7 +2,7 @@
 //! with empty bodies whose contracts are the laws, and the types of data that the code shares with the definitions.
 #![tactic(auto)]
 
-ghost use Rattle.fabric_world.specs.Delivery.{DeliversBound, SwitchesAreRows};
+ghost use Rattle.fabric_world.specs.Delivery.{SettledDelivers, SwitchesAreRows};
 ghost use Rattle.fabric_world.specs.Pieces.{CutsDoNotMatter};
 ghost use Rattle.fabric_world.specs.ReadLines.{ReadLinesAreLines};
 
@@ -26,6 +26,7 @@ pub enum Kind {
     Settle,
     Frame,
     Underlay,
+    Age,
     Rpc,
     Hangup,
     Show,
@@ -66,6 +67,13 @@ pub struct FrameLine {
 pub struct UnderlayLine {
     pub g: Name,
     pub hex: Bytes,
+}
+
+/// `age g seconds`: the clock of a gateway goes on.
+#[derive(Clone, Copy, Debug)]
+pub struct AgeLine {
+    pub g: Name,
+    pub seconds: u32,
 }
 
 /// `rpc g session hex`: bytes come from a session of the gateway's database. The session is at least 1.
@@ -120,6 +128,7 @@ pub enum Line {
     Intend(Intent),
     Frame(FrameLine),
     Underlay(UnderlayLine),
+    Age(AgeLine),
     Rpc(RpcLine),
     Hangup(HangupLine),
     Settle(SettleLine),
@@ -161,15 +170,16 @@ pub fn cuts_do_not_matter()
     ensures { CutsDoNotMatter }
 {}
 
-/// A law: in every state that lines lead to, where there is one gateway and no row of Ucast_Macs_Remote, a frame that enters at a
-/// binding of the rows leaves exactly where its switch delivers it, each once and in order. Bindings are of one switch exactly where
-/// they name one row of Logical_Switch.
-pub fn delivers_bound()
-    ensures delivers { DeliversBound }
+/// A law: in every state that lines lead to, where there is one gateway and the tables are settled, a frame that enters at a
+/// binding of the rows leaves exactly where its switch delivers it, each once and in order: at the binding where its destination
+/// is known, else at every other one. Its source is then known where it entered and nowhere else, unless it is the address of a
+/// group or could not be learnt. Bindings are of one switch exactly where they name one row of Logical_Switch.
+pub fn settled_delivers()
+    ensures delivers { SettledDelivers }
     ensures rows { SwitchesAreRows }
 {}
 
-/// A law: each line that is read of a text has values in the ranges of their types, and `delivers_bound` speaks of such lines.
+/// A law: each line that is read of a text has values in the ranges of their types, and `settled_delivers` speaks of such lines.
 pub fn read_lines_are_lines()
     ensures { ReadLinesAreLines }
 {}

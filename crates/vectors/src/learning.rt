@@ -6,9 +6,9 @@ use mac_learning::{Learned, Learnt};
 use std::alloc::Global;
 use vtep_base::{Bytes, Mac, Name, RowId, Vlan};
 
-/// Adds an entry: its switch, address, port and VLAN, and when it was seen.
+/// Adds an entry: its switch by the row's number, address, port and VLAN, and when it was seen.
 fn say_entry(alloc: Global, entry: &Learnt, answer: &mut Bytes) -> Result<(), CaseFault> {
-    let switch = format!(in alloc; "{} ", entry.switch)?;
+    let switch = format!(in alloc; "{} ", entry.switch % (1 << 62))?;
     answer.append(switch.as_bytes())?;
     entry.mac.print(answer)?;
     answer.push(b' ')?;
@@ -19,7 +19,7 @@ fn say_entry(alloc: Global, entry: &Learnt, answer: &mut Bytes) -> Result<(), Ca
     Ok(say(answer, seen.as_str())?)
 }
 
-fn say_entries(alloc: Global, learned: &Learned, answer: &mut Bytes) -> Result<(), CaseFault> {
+pub fn say_entries(alloc: Global, learned: &Learned, answer: &mut Bytes) -> Result<(), CaseFault> {
     'entries: for entry in learned.entries() {
         say_entry(alloc, entry, answer)?;
     }

@@ -2,6 +2,7 @@
 
 use crate::facts::say_facts;
 use crate::faults::CaseFault;
+use crate::learning::say_entries;
 use crate::lines::{bytes, number, parts, say, say_hex, text};
 use crate::messages::say_framing;
 use forward_program::Sent;
@@ -62,6 +63,9 @@ fn say_all(alloc: Global, sent: &Answer<Plain>, answer: &mut Bytes) -> Result<()
     if let Some(framing) = sent.failed {
         say_framing(alloc, framing, answer)?;
     }
+    if sent.full {
+        say(answer, "full")?;
+    }
     if let Some(why) = sent.dropped {
         let why = format!(in alloc; "{why:?}")?;
         say(answer, why.as_str())?;
@@ -92,8 +96,8 @@ impl Sessions {
     }
 
     /// Adds what each line gives: `new` begins anew, `counter` asks for the greatest row number, `name` for the gateway's name
-    /// and address, `has` for a port, `facts` and `show` for the facts of its forwarding state; `port`, `unport`, `hangup`, `frame` and
-    /// `underlay` are events, and every other line is a session and a piece.
+    /// and address, `has` for a port, `learned` for the learnt addresses, `facts` and `show` for the facts of its forwarding state; `port`,
+    /// `unport`, `hangup`, `frame`, `underlay` and `age` are events, and every other line is a session and a piece.
     pub fn answer(
         &mut self,
         alloc: Global,
@@ -110,6 +114,7 @@ impl Sessions {
                     self.whole.ip().print(answer)?;
                     answer.push(b'\n')?;
                 }
+                "learned" => say_entries(alloc, self.whole.learned(), answer)?,
                 "facts" => say_facts(alloc, self.whole.fib(), answer)?,
                 "show" => say_shown(&self.whole, answer)?,
                 _ => self.take(alloc, word, rest, answer)?,
@@ -151,6 +156,9 @@ impl Sessions {
                     bytes: bytes(alloc, frame)?,
                 }
             }
+            "age" => Event::Age {
+                seconds: session(rest)?,
+            },
             "underlay" => Event::Underlay {
                 bytes: bytes(alloc, rest)?,
             },

@@ -11,8 +11,8 @@ use crate::intention::Intention;
 use crate::roster::Roster;
 use crate::{FabricFault, refused};
 use fabric_world::{
-    FrameLine, GatewayLine, HangupLine, Intent, Network, PortLine, RpcLine, SettleLine, ShowLine,
-    UnderlayLine, UnportLine,
+    AgeLine, FrameLine, GatewayLine, HangupLine, Intent, Network, PortLine, RpcLine, SettleLine,
+    ShowLine, UnderlayLine, UnportLine,
 };
 use std::alloc::Global;
 use std::marker::Model;
@@ -272,6 +272,27 @@ impl Fabric {
     {
         let event = Event::Underlay {
             bytes: Bytes::from_slice(self.alloc, line.hex.as_slice())?,
+        };
+        self.roster.event_at(&line.g, &event, text)
+    }
+
+    /// The clock of a gateway goes on, and what it has not seen for 300 seconds is forgotten. It is refused where the gateway is unknown
+    /// (word 1).
+    pub fn age(&mut self, line: &AgeLine, out: &mut Bytes) -> Result<(), FabricFault>
+        requires going { self.old.stopped ≡ false }
+        ensures { Answers self.old (lines.Age line.now) self.new out.old out.new result }
+    {
+        let mut text = Bytes::new(self.alloc);
+        let done = self.pass_time(line, &mut text);
+        self.finish(done, &text, out)
+    }
+
+    fn pass_time(&mut self, line: &AgeLine, text: &mut Bytes) -> Result<(), FabricFault>
+        requires { text.old ≡ [] }
+        ensures { Does self.old (lines.Age line.now) self.new text.new result }
+    {
+        let event = Event::Age {
+            seconds: line.seconds,
         };
         self.roster.event_at(&line.g, &event, text)
     }

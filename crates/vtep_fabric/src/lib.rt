@@ -17,7 +17,7 @@ mod wanted;
 
 pub use fabric::Fabric;
 pub use fabric_world::{
-    FrameLine, GatewayLine, HangupLine, Intent, PortLine, RpcLine, SettleLine, ShowLine,
+    AgeLine, FrameLine, GatewayLine, HangupLine, Intent, PortLine, RpcLine, SettleLine, ShowLine,
     UnderlayLine, UnportLine,
 };
 pub use gateways::Gateways;

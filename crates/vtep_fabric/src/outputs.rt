@@ -5,7 +5,7 @@ ghost use Rattle.std.specs.Prelude.{map};
 ghost use Rattle.vtep_base.specs.Memory.{joined};
 ghost use Rattle.fabric_world.specs.Outputs.{framing_kind_text, frame_kind_text, packet_kind_text, reason_words, output_text, outputs_text, Message, Failed, Dropped, Lost};
 ghost use Rattle.fabric_world.specs.Outputs as outputs;
-ghost use Rattle.fabric_world.specs.Happenings.{messages, failures, session_of, drops, answer_outputs, fault_of};
+ghost use Rattle.fabric_world.specs.Happenings.{messages, failures, session_of, fulls, drops, answer_outputs, fault_of};
 ghost use Rattle.vtep_gateway.specs.declared.Reason.TheVariants as reason;
 ghost use Rattle.vtep_fabric.specs.Fabrics.{refusal_of};
 
@@ -191,6 +191,16 @@ fn write_reason(why: &Reason, text: &mut Bytes) -> Result<(), OutOfMemory>
     }
 }
 
+/// Writes that a source could not be learnt, where this is so.
+fn write_full(gateway: &Name, full: bool, text: &mut Bytes) -> Result<(), OutOfMemory>
+    ensures { OnOk result (text.new ≡ text.old ++ outputs_text (fulls gateway.now full)) }
+{
+    if full {
+        return text.append_all(&[b"full ", gateway.as_slice(), b"\n"]);
+    }
+    Ok(())
+}
+
 /// Writes why a frame or packet goes nowhere, where it does.
 fn write_drop(gateway: &Name, why: &Option<Reason>, text: &mut Bytes) -> Result<(), OutOfMemory>
     ensures { OnOk result (text.new ≡ text.old ++ outputs_text (drops gateway.now why.now)) }
@@ -249,8 +259,24 @@ pub(crate) fn write_lost(ip: Ipv4, text: &mut Bytes) -> Result<(), OutOfMemory>
     text.append(b"\n")
 }
 
-/// Writes what comes of an event: messages to sessions, the refusal of the session that it came from, why a frame or packet goes
-/// nowhere, and the frames that leave.
+/// Writes what becomes of a frame or packet: that its source could not be learnt, why it goes nowhere, and the frames that leave.
+fn write_forwarded(
+    alloc: Global,
+    gateway: &Name,
+    answer: &Answer<Plain>,
+    text: &mut Bytes,
+) -> Result<(), OutOfMemory>
+    ensures { OnOk result (text.new ≡ text.old
+        ++ outputs_text (fulls gateway.now answer.now.full ++ (drops gateway.now answer.now.dropped
+        ++ map (λ o. outputs.Out gateway.now o.port o.bytes) answer.now.sent.outs))) }
+{
+    write_full(gateway, answer.full, text)?;
+    write_drop(gateway, &answer.dropped, text)?;
+    write_outs(alloc, gateway, answer.sent.outs().as_slice(), text)
+}
+
+/// Writes what comes of an event: messages to sessions, the refusal of the session that it came from, that a source could not be learnt,
+/// why a frame or packet goes nowhere, and the frames that leave.
 pub(crate) fn write_answer(
     alloc: Global,
     gateway: &Name,
@@ -263,6 +289,5 @@ pub(crate) fn write_answer(
 {
     write_messages(gateway, answer.sends.as_slice(), text)?;
     write_failure(gateway, session_of(event), &answer.failed, text)?;
-    write_drop(gateway, &answer.dropped, text)?;
-    write_outs(alloc, gateway, answer.sent.outs().as_slice(), text)
+    write_forwarded(alloc, gateway, answer, text)
 }

@@ -39,7 +39,7 @@ fn may_change_rows(event: &Event) -> bool
         → (g : states.Gateway) → (step g event.now).gateway ≡ g }
 {
     match event {
-        Event::Frame { .. } | Event::Underlay { .. } => false,
+        Event::Underlay { .. } => false,
         _ => true,
     }
 }

@@ -25,7 +25,7 @@ use Rattle.vtep_rows.proofs.Restored.{itself}
 use Rattle.vtep_rows.proofs.TwinLaws.{any_found}
 use Rattle.vtep_gateway.specs.Ports.{switch_id}
 use Rattle.vtep_gateway.specs.Settled.{switch_with, IsSettled}
-use Rattle.vtep_gateway.proofs.Ascending.{has_id, Ascending, same_ids, fewer, has_row, ids_ascend}
+use Rattle.forward_program.proofs.Ascending.{has_id, Ascending, same_ids, fewer, has_row, ids_ascend}
 
 -- ---- what a collection leaves
 

@@ -1,27 +1,27 @@
--- What a transaction leaves, and what the monitors are told of it.
-use Rattle.std.proofs.Common.{◌≡◌, List, ◌++◌, Option, Some, None, refl, sym, ◌∙◌, append-nil}
-use Rattle.std.specs.Option.{unwrap_or}
-use Rattle.vtep_rows.specs.declared.differences.RowChange.{RowChange}
-use Rattle.vtep_rows.specs.Changes.{changes}
-use Rattle.vtep_rows.specs.Rows.{Rows}
+-- What commits come to.
+use Rattle.std.proofs.Common.{◌≡◌, ℕ, ◌≤◌, cond, List, Some, Ok, Err, sym, ap, subst, ◌∙◌}
+use Rattle.vtep_rows.specs.declared.soundness.Rule.{Rule}
+use Rattle.vtep_rows.specs.declared.soundness.Rule.TheVariants.{Limit}
+use Rattle.vtep_rows.specs.Rows.{Rows, last_number}
+use Rattle.vtep_rows.specs.Sound.{broken}
+use Rattle.vtep_rows.specs.Database.{Versions}
+use Rattle.mac_learning.specs.declared.Learnt.{Learnt}
+use Rattle.local_tables.specs.Followed.{Committed, judged, followed, commit}
+use Rattle.local_tables.proofs.Ageing.{unspent}
 use Rattle.vtep_gateway.specs.declared.Outgoing.{Outgoing}
-use Rattle.vtep_gateway.specs.Vtep.{Vtep, with_rows}
+use Rattle.vtep_gateway.specs.Vtep.{Vtep}
 use Rattle.vtep_gateway.specs.Monitors.{told_all}
-use Rattle.vtep_gateway.specs.Methods.{IsChange, keep, tells}
+use Rattle.vtep_gateway.specs.Commit.{Taken, kept, commit_of, changed}
 
-pub kept_rows : (v : Vtep) (o : Option Rows) → with_rows v (unwrap_or o v.rows) ≡ keep v o
-kept_rows v None = refl
-kept_rows v (Some r) = refl
+-- no number past the last one was given, and a rule is broken
+pub broken_commits : (own : ℕ) (d e : Versions) (l : List Learnt) (rule : Rule) → e ≡ record d { current = (followed own d.committed d.current l).rows } → e.current.counter ≤ last_number → broken e.current ≡ Some rule
+    → commit own d.committed d.current l ≡ Err rule
+broken_commits own d e l rule follows few is =
+    let c : Committed = followed own d.committed d.current l in
+    let rows : e.current ≡ c.rows = ap (λ v. v.current) follows in
+    ap (λ b. judged c (cond b (Some Limit) (broken c.rows))) (unspent c.rows (subst (λ (s : Rows). s.counter ≤ last_number) rows few)) ∙ ap (judged c) (ap broken (sym rows) ∙ is)
 
--- a change is told
-pub some_told : (v : Vtep) (change : Option (List RowChange)) (x : List RowChange) (o : Option Rows) (sends after : List Outgoing) → change ≡ Some x → IsChange change v.rows o
-    → ((new : Rows) → x ≡ changes v.rows new → after ≡ sends ++ told_all v.rows new v.monitors) → after ≡ sends ++ tells v o
-some_told v None x o sends after e is told = cc
-some_told v (Some y) x None sends after e is told = absurd is
-some_told v (Some y) x (Some new) sends after e is told = told new ((let same : x ≡ y = cc in same) ∙ is)
-
--- and where there is none, nothing is
-pub none_told : (v : Vtep) (change : Option (List RowChange)) (o : Option Rows) (sends : List Outgoing) → change ≡ None → IsChange change v.rows o → sends ≡ sends ++ tells v o
-none_told v None None sends none is = sym (append-nil sends)
-none_told v None (Some new) sends none is = absurd is
-none_told v (Some y) o sends none is = cc
+-- one that is kept
+pub changed_is : (v : Vtep) (r : Rows) (l : List Learnt) (k : Committed) (w : Vtep) (sends : List Outgoing) → commit_of v r l ≡ Ok k → w ≡ record v { rows = k.rows; learned = k.learned } → sends ≡ told_all v.rows k.rows v.monitors
+    → changed v r l ≡ record { vtep = w; sends = sends }
+changed_is v r l k w sends told is_w is_sends = ap (kept v) told ∙ (λ i. let t : Taken = record { vtep = sym is_w i; sends = sym is_sends i } in t)

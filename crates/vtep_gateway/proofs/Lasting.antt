@@ -164,7 +164,7 @@ each_changed t f so (id ∷ ids) r rows = by (changed_at t id f (row_at r (t, id
 
 -- ---- operations
 
-abbrev Leaves : Rows → Reply × Rows → Type 0
+abbrev pub Leaves : Rows → Reply × Rows → Type 0
 Leaves r x = LeavesRest r x.1
 
 change_leaves : (t : Table) (f : Contents → Reading Contents) (ids : List ℕ) (r : Rows) → IsRows r → ((a : Contents) → is_row a ≡ true → a.table ≡ t → Gives (Rewrites a) (f a)) → Gives (Leaves r) (change t f ids r)
@@ -220,7 +220,7 @@ mutations_resolved : (ns : Names) (p : Column → Bool) (ms : List Mutation) →
 mutations_resolved ns p [] h = refl
 mutations_resolved ns p (m ∷ ms) h = both (p m.column) _ (first_so (p m.column) _ h) (mutations_resolved ns p ms (second_so (p m.column) _ h))
 
-op_leaves : (ns : Names) (o : Op) (r : Rows) → IsRows r → Permits o → Gives (Leaves r) (run_op ns o r)
+pub op_leaves : (ns : Names) (o : Op) (r : Rows) → IsRows r → Permits o → Gives (Leaves r) (run_op ns o r)
 unfolding change_step update_step mutate_step wait
 op_leaves ns (op.Insert t row name) r rows h = insert_leaves t (resolved_cells ns row) r rows h
 op_leaves ns (op.Select t cs columns) r rows h = leaves_itself r rows

@@ -1,5 +1,5 @@
 -- In the text of sound rows no two facts have one place, so that the line of each stands there.
-use Rattle.std.proofs.Common.{◌≡◌, ◌≤◌, inl, inr, ℕ, suc, nat_le, Bool, true, false, ◌&&◌, ◌||◌, List, [], ◌∷◌, map, length, is_some, Option, Some, None, refl, sym, ap, ◌∙◌, arith}
+use Rattle.std.proofs.Common.{◌≡◌, ◌≤◌, inl, inr, ℕ, suc, nat_le, Bool, true, false, ◌&&◌, ◌||◌, List, [], ◌∷◌, map, length, is_some, Option, Some, None, refl, sym, ap, subst, ◌∙◌, true≢false, arith}
 use Rattle.std.specs.List.{list_all, filter_map}
 use Rattle.std.specs.Option.{option_map, option_and_then, unwrap_or}
 use Rattle.std.specs.Ordering.{nat_cmp, ordering_then}
@@ -30,6 +30,8 @@ use Rattle.vtep_rows.proofs.Kept.{its_contents, its_table, so_le}
 use Rattle.vtep_rows.proofs.RowLaws.{not_absent, value_allowed}
 use Rattle.forward_program.specs.declared.spots.Spot.TheVariants as spot
 use Rattle.forward_program.specs.declared.spots.Part.TheVariants as part
+use Rattle.mac_learning.specs.declared.Learnt.{Learnt}
+use Rattle.forward_program.specs.declared.held.Held.{Held}
 use Rattle.forward_program.specs.declared.readings.Remote.{Remote}
 use Rattle.forward_program.specs.declared.readings.Group.{Group}
 use Rattle.forward_program.specs.declared.facts.Fact.{Fact}
@@ -43,9 +45,14 @@ use Rattle.forward_program.specs.Joins.{fact_at, facts_of}
 use Rattle.forward_program.proofs.Columns.{hold_one}
 use Rattle.forward_program.proofs.InLists.{flat_in, in_map, map_in, in_picked, picked_in}
 use Rattle.forward_program.proofs.MapLists.{get_in, in_has, from_entries}
-use Rattle.forward_program.proofs.Unique.{some_of, map_of, at_given}
+use Rattle.forward_program.proofs.Unique.{some_of, map_of}
 use Rattle.forward_program.proofs.FactLaws.{something}
+use Rattle.forward_program.proofs.Known.{KnownHost, at_known}
 use Rattle.forward_program.proofs.Once.{spot_of, its_place}
+use Rattle.local_tables.specs.Followed.{is_named_by_port, is_bound_there}
+use Rattle.local_tables.proofs.Members.{all_in}
+use Rattle.local_tables.proofs.Bound.{bound_switch}
+use Rattle.vtep_gateway.specs.Good.{IsGood}
 use Rattle.vtep_gateway.specs.declared.lines.Line.{Line}
 use Rattle.vtep_gateway.specs.declared.lines.Line.TheVariants as line
 use Rattle.vtep_gateway.specs.contracts.lines.LineOrd.TheImpl.Laws as line_laws
@@ -148,12 +155,13 @@ group_switch row x is =
     let l = map_of (group s.0 m.0) (id_at row McastRemoteLocatorSet) x m.2 in
     s.1 ∙ ap (λ (y : Group). Some y.switch) (sym l.2)
 
-all_in : {A : Type 0} (p : A → Bool) (x : A) (xs : List A) → list_all p xs ≡ true → IsIn x xs → p x ≡ true
-all_in p x [] h is = absurd is
-all_in p x (y ∷ ys) h (inl e) = ap p e ∙ first_so (p y) (list_all p ys) h
-all_in p x (y ∷ ys) h (inr is) = all_in p x ys (second_so (p y) (list_all p ys) h) is
+module _ (r : Rows) (learnt : List Learnt) (good : IsGood r learnt) where
+  rows : IsRows r
+  rows = good.settled.rows
 
-module _ (r : Rows) (rows : IsRows r) (sound : Sound r) where
+  sound : Sound r
+  sound = good.settled.sound
+
   -- a switch has one name
   named : (s : ℕ) (row : Contents) → row_at r (LogicalSwitch, s) ≡ Some row → (t : Bytes) × (atoms_at row LogicalName ≡ Text t ∷ [])
   named s row at = by (maps.get row.values LogicalName) refl
@@ -179,36 +187,47 @@ module _ (r : Rows) (rows : IsRows r) (sound : Sound r) where
       (both (hold_same (atoms_at a LogicalName) (atoms_at b LogicalName)) true
       (hold_one (Text x.0) (atoms_at a LogicalName) (atoms_at b LogicalName) x.1 (y.1 ∙ ap (λ t. Text t ∷ []) text)) refl))
 
-  -- a row that is named is there
-  there : (t : Table) (i : ℕ) (row : Contents) (c : Column) (u : ℕ) → row_at r (t, i) ≡ Some row → (column_rule c).key ≡ domain.Row LogicalSwitch → id_at row c ≡ Some u → (a : Contents) × (row_at r (LogicalSwitch, u) ≡ Some a)
-  there t i row c u at key e = by (row_at r (LogicalSwitch, u)) refl
+  abbrev IsThere : ℕ → Type 0
+  IsThere s = (row : Contents) × (row_at r (LogicalSwitch, s) ≡ Some row)
+
+  is_there : (s : ℕ) → maps.has r.rows (LogicalSwitch, s) ≡ true → IsThere s
+  is_there s has = by (row_at r (LogicalSwitch, s)) refl
     where
-      by : (o : Option Contents) → row_at r (LogicalSwitch, u) ≡ o → (a : Contents) × (row_at r (LogicalSwitch, u) ≡ Some a)
-      by None none =
-          let has : maps.has r.rows (LogicalSwitch, u) ≡ true = all_in (maps.has r.rows) (LogicalSwitch, u) (references row) (sound.there (t, i) row at) (row_names row c LogicalSwitch u key e) in
-          let clash : false ≡ true = ap is_some (sym none) ∙ has in
-          cc
+      by : (o : Option Contents) → row_at r (LogicalSwitch, s) ≡ o → IsThere s
+      by None none = absurd (true≢false (sym has ∙ ap is_some none))
       by (Some a) is = (a, is)
+
+  -- a switch that a row names is there
+  named_there : (t : Table) (i : ℕ) (row : Contents) (c : Column) (s : ℕ) → row_at r (t, i) ≡ Some row → (column_rule c).key ≡ domain.Row LogicalSwitch → id_at row c ≡ Some s → IsThere s
+  named_there t i row c s at key e = is_there s (all_in (maps.has r.rows) (references row) (LogicalSwitch, s) (sound.there (t, i) row at) (row_names row c LogicalSwitch s key e))
+
+  -- the switch of a learnt address is there
+  learnt_there : (e : Learnt) → IsIn e learnt → IsThere e.switch
+  learnt_there e is =
+      is_there e.switch (first_so (maps.has r.rows (LogicalSwitch, e.switch)) (is_named_by_port r e.switch) (bound_switch r sound e (all_in (is_bound_there r) learnt e good.local.bound is)))
 
   -- ---- the facts
 
   abbrev m : Entries
-  m = shown r []
+  m = shown r learnt
 
   at_place : (f : Fact) → IsIn f (facts_of m) → fact_at m (spot_of f) ≡ Some f
   at_place f is = let k = in_picked (fact_at m) f (maps.keys m) is in ap (fact_at m) (its_place m k.0 f k.2) ∙ k.2
 
-  mac_switch : (s a : ℕ) (p : Place) → IsIn (fact.Mac s a p) (facts_of m) → (row : Contents) × (row_at r (LogicalSwitch, s) ≡ Some row)
+  host_there : (s a : ℕ) (h : Held) → KnownHost r learnt s a h → IsThere s
+  host_there s a h (inl (e, listed, at_switch, at_mac, value)) = subst IsThere at_switch (learnt_there e listed)
+  host_there s a h (inr (none, (i, row, at, x, known, at_switch, at_mac, value))) = named_there UcastMacsRemote i row UcastRemoteLogicalSwitch s at refl (remote_switch row x known ∙ ap Some at_switch)
+
+  mac_switch : (s a : ℕ) (p : Place) → IsIn (fact.Mac s a p) (facts_of m) → IsThere s
   mac_switch s a p is =
       let h = something m (spot.Switch s (part.Host a)) (fact.Mac s a p) (at_place (fact.Mac s a p) is) in
-      let g = at_given r rows sound (spot.Switch s (part.Host a)) h.0 h.1 in
-      there UcastMacsRemote g.0 g.1 UcastRemoteLogicalSwitch s g.2 refl (remote_switch g.1 g.3 g.4 ∙ ap Some g.5)
+      host_there s a h.0 (at_known r learnt rows sound good.local.once (spot.Switch s (part.Host a)) h.0 h.1)
 
-  flood_switch : (s : ℕ) (a : Option ℕ) (ips : List ℕ) → IsIn (fact.Flood s a ips) (facts_of m) → (row : Contents) × (row_at r (LogicalSwitch, s) ≡ Some row)
+  flood_switch : (s : ℕ) (a : Option ℕ) (ips : List ℕ) → IsIn (fact.Flood s a ips) (facts_of m) → IsThere s
   flood_switch s a ips is =
       let h = something m (spot.Switch s (part.Group a)) (fact.Flood s a ips) (at_place (fact.Flood s a ips) is) in
-      let g = at_given r rows sound (spot.Switch s (part.Group a)) h.0 h.1 in
-      there McastMacsRemote g.0 g.1 McastRemoteLogicalSwitch s g.2 refl (group_switch g.1 g.3 g.4 ∙ ap Some g.5)
+      let g = at_known r learnt rows sound good.local.once (spot.Switch s (part.Group a)) h.0 h.1 in
+      named_there McastMacsRemote g.0 g.1 McastRemoteLogicalSwitch s g.2 refl (group_switch g.1 g.3 g.4 ∙ ap Some g.5)
 
   same_spot : (f g : Fact) → IsIn f (facts_of m) → IsIn g (facts_of m) → key_of r f ≡ key_of r g → spot_of f ≡ spot_of g
   same_spot (fact.Vni v s) (fact.Vni w u) is js e = ap (λ l. spot.Vni (number_in l)) e

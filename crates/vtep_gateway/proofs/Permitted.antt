@@ -49,7 +49,7 @@ pub by_gives : {A B : Type 0} (P : A → Type 0) (Q : B → Type 0) (r : Reading
 by_gives P Q (Ok a) refused f h bad good = good a h
 by_gives P Q (Err w) refused f h bad good = bad w
 
-either_gives : {A : Type 0} (P : A → Type 0) (b : Bool) (x y : Reading A) → Gives P x → Gives P y → Gives P (if b then x else y)
+pub either_gives : {A : Type 0} (P : A → Type 0) (b : Bool) (x y : Reading A) → Gives P x → Gives P y → Gives P (if b then x else y)
 either_gives P true x y h g = h
 either_gives P false x y h g = g
 
@@ -220,7 +220,7 @@ op_permits known earlier d = then_gives Permits (member as_str (codes "op") d) (
 
 -- ---- all operations of a transaction
 
-end_passes : (p : Op → Bool) (os : List Op) (o : Op) → list_all p os ≡ true → p o ≡ true → list_all p (os ++ o ∷ []) ≡ true
+pub end_passes : (p : Op → Bool) (os : List Op) (o : Op) → list_all p os ≡ true → p o ≡ true → list_all p (os ++ o ∷ []) ≡ true
 end_passes p [] o h g = both (p o) true g refl
 end_passes p (x ∷ os) o h g = both (p x) _ (first_so (p x) (list_all p os) h) (end_passes p os o (second_so (p x) (list_all p os) h) g)
 

@@ -1,4 +1,4 @@
--- One more port: the commit never fails, and leaves settled rows.
+-- One more port leaves settled rows, of which none is taken away.
 use Rattle.std.proofs.Common.{◌≡◌, ℕ, ◌%◌, ◌^◌, ◌<◌, ◌≤◌, ◌==◌, Bool, true, false, cond, not, ◌&&◌, ◌||◌, nat_le, List, [], ◌∷◌, ◌++◌, map, length, is_some, Option, Some, None, refl, sym, ap, subst, ◌∙◌, true≢false, arith, length-append, append-nil, append_assoc, inl, inr, ◌⊎◌, Ok}
 use Rattle.std.specs.Prelude.{if◌then◌else◌}
 use Rattle.std.proofs.lemmas.Bool.Decides.{nat_tests}
@@ -27,7 +27,7 @@ use Rattle.vtep_schema.specs.Tables.{table_rule, unique_keys, same_table}
 use Rattle.vtep_rows.specs.Row.{Contents, is_row, allowed, value_at, with_value, default_row, references, atoms_at, first, atom_allowed}
 use Rattle.vtep_rows.specs.Rows.{Key, key_cmp, Rows, IsRows, row_at, row_id, rows_of, ids_of, next_id, inserted, replaced, last_number, is_given, same_key, names, has_key, is_named, stays, collected}
 use Rattle.vtep_rows.specs.Keyed.{holds_only}
-use Rattle.vtep_rows.specs.Sound.{Sound, agree, hold_same, broken}
+use Rattle.vtep_rows.specs.Sound.{Sound, agree, hold_same}
 use Rattle.vtep_rows.specs.Orders.{key_total}
 use Rattle.vtep_rows.proofs.Entries.{both, all_so, has-insert, same_some}
 use Rattle.vtep_rows.proofs.Kept.{its_contents, is_fresh, still_inserted, still_put, given_there, same_table_exact, so_le}
@@ -39,10 +39,9 @@ use Rattle.vtep_rows.proofs.TwinLaws.{one_answer, entry_so}
 use Rattle.vtep_gateway.specs.Ports.{is_named as has_name, port_named, is_full, port_refusal, switch_id, switch_of, changed_ports, changed_switch, Takes, port_row, with_port}
 use Rattle.vtep_gateway.specs.declared.ports.Change.TheVariants.{Joins}
 use Rattle.vtep_gateway.specs.declared.EventRefused.TheVariants.{Repeated, Ports}
-use Rattle.vtep_gateway.specs.Commit.{judged, commit}
 use Rattle.vtep_gateway.specs.Settled.{switch_with, IsSettled}
-use Rattle.vtep_gateway.proofs.Ascending.{has_id, same_ids, Ascending, in_middle, one_behind, in_end, has_row, ids_ascend}
-use Rattle.vtep_gateway.proofs.Collecting.{port_key, switch_key, names_port, ports_pass, alone, there_alone, no_more, no_more_than, settled_after, all_stay, it_stays, stays_named, switch_references, unbroken}
+use Rattle.forward_program.proofs.Ascending.{has_id, same_ids, Ascending, in_middle, one_behind, in_end, has_row, ids_ascend}
+use Rattle.vtep_gateway.proofs.Collecting.{port_key, switch_key, names_port, ports_pass, alone, there_alone, no_more, no_more_than, settled_after, all_stay, it_stays, stays_named, switch_references}
 
 -- ---- ascending identifiers are a set
 
@@ -223,7 +222,7 @@ module _ (r : Rows) (name : Bytes) (settled : IsSettled r) (short : length name 
       still_put (inserted r port) (switch_key r) switch rows_inserted (given_there (inserted r port) (switch_key r) rows_inserted (ap is_some switch_there)) refl
       (still_row (switch_with settled.name settled.ip ids) SwitchPorts (datum.Set (map Id joined)) (its_contents r PhysicalSwitch (switch_id r) _ settled.rows settled.switch) refl (ports_allowed joined few))
 
-  at_switch : row_at after (switch_key r) ≡ Some switch
+  pub at_switch : row_at after (switch_key r) ≡ Some switch
   at_switch = put_there (inserted r port).rows (switch_key r) switch
 
   but_switch : (q : Key) → eq_by_cmp key_cmp q (switch_key r) ≡ false → row_at after q ≡ row_at (inserted r port) q
@@ -380,6 +379,3 @@ module _ (r : Rows) (name : Bytes) (settled : IsSettled r) (short : length name 
 
   pub join_clean : collected (with_port r name) ≡ with_port r name
   join_clean = subst (λ s. collected s ≡ s) (sym port_joined) clean
-
-  pub join_commits : commit (with_port r name) ≡ Ok (with_port r name)
-  join_commits = subst (λ s. commit s ≡ Ok s) (sym port_joined) ((λ i. judged (clean i) (broken (clean i))) ∙ ap (judged after) (unbroken after sound))

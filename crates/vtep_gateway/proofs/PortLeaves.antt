@@ -1,4 +1,4 @@
--- One port less: the commit never fails, and leaves settled rows.
+-- One port less: the rows that are left are settled.
 use Rattle.std.proofs.Common.{◌≡◌, ℕ, ◌≤◌, ◌==◌, Bool, true, false, cond, not, ◌&&◌, ◌||◌, List, [], ◌∷◌, map, length, is_some, Option, Some, None, Ok, refl, sym, ap, subst, ◌∙◌, true≢false, arith}
 use Rattle.std.proofs.lemmas.Bool.Decides.{nat_tests}
 use Rattle.std.proofs.lemmas.List.{length-map}
@@ -35,10 +35,9 @@ use Rattle.vtep_rows.proofs.IndexLaws.{put_there}
 use Rattle.vtep_rows.proofs.Collected.{still_collected}
 use Rattle.vtep_gateway.specs.Ports.{switch_id, switch_of, changed_ports, changed_switch, Takes, without_port}
 use Rattle.vtep_gateway.specs.declared.ports.Change.TheVariants.{Leaves}
-use Rattle.vtep_gateway.specs.Commit.{judged, commit}
 use Rattle.vtep_gateway.specs.Settled.{switch_with, IsSettled}
-use Rattle.vtep_gateway.proofs.Ascending.{has_id, same_ids, Ascending, some_picked, in_picked, has_row, ids_ascend, fewer}
-use Rattle.vtep_gateway.proofs.Collecting.{port_key, switch_key, ports_pass, alone, there_alone, no_more, settled_after, was_there, was_in, still_in, still_there, twice_collected, stays_named, switches_stay, ports_stay, unbroken}
+use Rattle.forward_program.proofs.Ascending.{has_id, same_ids, Ascending, some_picked, in_picked, has_row, ids_ascend, fewer}
+use Rattle.vtep_gateway.proofs.Collecting.{port_key, switch_key, ports_pass, alone, there_alone, no_more, settled_after, was_there, was_in, still_in, still_there, twice_collected, stays_named, switches_stay, ports_stay}
 use Rattle.vtep_gateway.proofs.PortJoins.{ports_allowed}
 
 -- ---- only rows of Physical_Switch name ports
@@ -159,19 +158,19 @@ module _ (r : Rows) (id : ℕ) (settled : IsSettled r) where
   abbrev ids : List ℕ
   ids = ids_of PhysicalPort r
 
-  abbrev left : List ℕ
+  abbrev pub left : List ℕ
   left = filter (but id) ids
 
   abbrev switch : Contents
   switch = switch_with settled.name settled.ip left
 
-  abbrev changed : Rows
+  abbrev pub changed : Rows
   changed = replaced (removed r (port_key id)) (switch_key r) switch
 
   abbrev after : Rows
   after = collected changed
 
-  up : Ascending left
+  pub up : Ascending left
   up = some_picked (but id) ids (ids_ascend PhysicalPort r)
 
   few : length left ≤ 64
@@ -203,12 +202,12 @@ module _ (r : Rows) (id : ℕ) (settled : IsSettled r) where
   rows_removed : IsRows (removed r (port_key id))
   rows_removed = still_removed r (port_key id) settled.rows
 
-  rows_changed : IsRows changed
+  pub rows_changed : IsRows changed
   rows_changed =
       still_put (removed r (port_key id)) (switch_key r) switch rows_removed (given_there (removed r (port_key id)) (switch_key r) rows_removed (ap is_some switch_there)) refl
       (still_row (switch_with settled.name settled.ip ids) SwitchPorts (datum.Set (map Id left)) (its_contents r PhysicalSwitch (switch_id r) _ settled.rows settled.switch) refl (ports_allowed left few))
 
-  at_switch : row_at changed (switch_key r) ≡ Some switch
+  pub at_switch : row_at changed (switch_key r) ≡ Some switch
   at_switch = put_there (removed r (port_key id)).rows (switch_key r) switch
 
   but_switch : (q : Key) → eq_by_cmp key_cmp q (switch_key r) ≡ false → row_at changed q ≡ row_at (removed r (port_key id)) q
@@ -250,7 +249,7 @@ module _ (r : Rows) (id : ℕ) (settled : IsSettled r) where
       by true e = absurd (true≢false (sym h ∙ ap other (tied q (port_key id) e)))
       by false e = e
 
-  own : (i : ℕ) → has_id left i ≡ maps.has changed.rows (port_key i)
+  pub own : (i : ℕ) → has_id left i ≡ maps.has changed.rows (port_key i)
   own i = in_picked (but id) ids i ∙ ap (λ b. b && not (i == id)) (has_row PhysicalPort r i) ∙ by (i == id) refl
     where
       off : (b : Bool) → (b && false) ≡ false
@@ -273,7 +272,7 @@ module _ (r : Rows) (id : ℕ) (settled : IsSettled r) where
               absurd (true≢false (sym on ∙ e))
           apart false tie = tie
 
-  switches : (i : ℕ) → maps.has changed.rows (PhysicalSwitch, i) ≡ maps.has r.rows (PhysicalSwitch, i)
+  pub switches : (i : ℕ) → maps.has changed.rows (PhysicalSwitch, i) ≡ maps.has r.rows (PhysicalSwitch, i)
   switches i = one (maps.has changed.rows (PhysicalSwitch, i)) (maps.has r.rows (PhysicalSwitch, i)) (was (PhysicalSwitch, i)) (λ h. still (PhysicalSwitch, i) h refl)
     where
       one : (a b : Bool) → (a ≡ true → b ≡ true) → (b ≡ true → a ≡ true) → a ≡ b
@@ -340,6 +339,3 @@ module _ (r : Rows) (id : ℕ) (settled : IsSettled r) where
 
   pub leave_settled : IsSettled (collected (without_port r id))
   leave_settled = subst (λ s. IsSettled (collected s)) (sym port_left) after_settled
-
-  pub leave_commits : commit (without_port r id) ≡ Ok (collected (without_port r id))
-  leave_commits = subst (λ s. commit s ≡ Ok (collected s)) (sym port_left) (ap (judged after) (unbroken after sound))

@@ -1,9 +1,12 @@
 -- Of rows that do not differ nothing is told.
-use Rattle.std.proofs.Common.{◌≡◌, ℕ, suc, ◌==◌, true, arith, length, List, [], ◌∷◌, ◌++◌, refl, sym, ap, ◌∙◌, append-nil}
+use Rattle.std.proofs.Common.{◌≡◌, inl, ℕ, suc, ◌==◌, true, arith, length, List, [], ◌∷◌, ◌++◌, refl, sym, ap, subst, ◌∙◌, append-nil}
 use Rattle.std.proofs.lemmas.Bool.Decides.{nat_tests}
 use Rattle.std.specs.List.{flat_map}
+use Rattle.vtep_rows.specs.declared.differences.RowChange.{RowChange}
 use Rattle.vtep_rows.specs.Rows.{Rows}
 use Rattle.vtep_rows.specs.Changes.{changes}
+use Rattle.forward_program.specs.Built.{IsIn}
+use Rattle.forward_program.proofs.InChange.{never_same, one_is}
 use Rattle.monitor_updates.specs.OneRow.{noted_in}
 use Rattle.monitor_updates.proofs.Tables.{noted_from}
 use Rattle.vtep_gateway.specs.declared.Outgoing.{Outgoing}
@@ -30,3 +33,14 @@ module _ (old new : Rows) (same : changes old new ≡ []) where
 
   pub nothing_told : (m : Monitors) (sends : List Outgoing) → sends ≡ sends ++ told_all old new m
   nothing_told m sends = sym (ap (λ out. sends ++ out) (of_all m.list) ∙ append-nil sends)
+
+-- no row differs from itself
+unchanged : (r : Rows) → changes r r ≡ []
+unchanged r = by (changes r r) refl
+  where
+    by : (cs : List RowChange) → changes r r ≡ cs → cs ≡ []
+    by [] e = refl
+    by (c ∷ cs) e = let h = one_is r r c (subst (λ (xs : List RowChange). IsIn c xs) (sym e) (inl refl)) in absurd (never_same c.old c.new (h.0 ∙ sym h.1) h.2)
+
+pub unchanged_told : (r : Rows) (m : Monitors) → told_all r r m ≡ []
+unchanged_told r m = of_all r r (unchanged r) m.list

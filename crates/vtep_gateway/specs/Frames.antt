@@ -5,24 +5,29 @@ use Rattle.ether_frames.specs.declared.FrameFault.{FrameFault}
 use Rattle.ether_frames.specs.Frames.{frame_of}
 use Rattle.vxlan_frames.specs.declared.PacketFault.{PacketFault}
 use Rattle.vxlan_frames.specs.Packets.{packet_of}
-use Rattle.vtep_rows.specs.Rows.{Rows}
 use Rattle.forward_program.specs.declared.hops.Origin.{Origin}
 use Rattle.forward_program.specs.declared.hops.Origin.TheVariants as origin
 use Rattle.forward_program.specs.declared.hops.Outcome.{Outcome}
 use Rattle.forward_program.specs.declared.hops.Outcome.TheVariants as outcome
 use Rattle.forward_program.specs.Readings.{own_ip}
 use Rattle.forward_program.specs.Built.{built}
-use Rattle.forward_program.specs.Hop.{Way, hop, ways_of}
+use Rattle.forward_program.specs.Hop.{Ways, Way, hop, ways_of}
 use Rattle.forward_program.specs.Sent.{Sent, out_of, packets_of}
 use Rattle.vtep_gateway.specs.declared.Reason.{Reason}
 use Rattle.vtep_gateway.specs.declared.Reason.TheVariants as reason
 use Rattle.vtep_gateway.specs.declared.EventRefused.TheVariants.{NoPort}
+use Rattle.vtep_gateway.specs.Vtep.{Vtep}
+use Rattle.vtep_gateway.specs.Learning.{Seen, with_source}
 use Rattle.vtep_gateway.specs.Gateway.{Gateway, Answer, Step, nothing, refused}
 use Rattle.vtep_gateway.specs.Ports.{port_named}
 
--- where a frame goes by the facts that are built from the rows
-abbrev pub way : Rows → Origin → Bytes → Way
-way r from inner = hop (ways_of (built r [])) from inner
+-- what the facts say that are built from the rows and from what is learnt
+abbrev pub ways : Vtep → Ways
+ways v = ways_of (built v.rows v.learned)
+
+-- where a frame goes by them
+abbrev pub way : Vtep → Origin → Bytes → Way
+way v from inner = hop (ways v) from inner
 
 abbrev pub why_nowhere : Outcome → Option Reason
 why_nowhere outcome.Done = None
@@ -42,25 +47,32 @@ sent_unless None sent = record nothing { sent = sent }
 sent_unless (Some why) sent = dropped why
 
 -- a frame goes its way, or nowhere
-abbrev pub forwarded : Rows → Origin → Bytes → Answer
-forwarded r from inner = sent_unless (why_nowhere (way r from inner).outcome) (sent_along (own_ip r) (way r from inner) inner)
+abbrev pub forwarded : Vtep → Origin → Bytes → Answer
+forwarded v from inner = sent_unless (why_nowhere (way v from inner).outcome) (sent_along (own_ip v.rows) (way v from inner) inner)
 
 -- ---- a frame that enters at a port
 
-abbrev pub frame_answer : Rows → Bytes → Result (ℕ × Bytes) FrameFault → Answer
-frame_answer r port (Ok f) = forwarded r (origin.Port port f.0) f.1
-frame_answer r port (Err fault) = dropped (reason.Frame fault)
+-- it goes its way by what is known then
+abbrev pub sent_after : Gateway → Seen → Origin → Bytes → Step
+sent_after g s from inner = record { gateway = record g { vtep = s.vtep }; answer = record (forwarded s.vtep from inner) { sends = s.sends; full = s.full } }
+
+-- the source of a frame that is bound is learnt first
+abbrev pub entered : Gateway → Bytes → ℕ → Bytes → Option ℕ → Step
+entered g port vlan inner None = record { gateway = g; answer = dropped reason.Unbound }
+entered g port vlan inner (Some switch) = sent_after g (with_source g.vtep switch port vlan inner) (origin.Port port vlan) inner
+
+abbrev pub frame_step : Gateway → Bytes → Result (ℕ × Bytes) FrameFault → Step
+frame_step g port (Ok f) = entered g port f.0 f.1 ((ways g.vtep).bound (port, f.0))
+frame_step g port (Err fault) = record { gateway = g; answer = dropped (reason.Frame fault) }
 
 abbrev pub on_frame : Gateway → Bytes → Bytes → Step
-on_frame g port bytes =
-    if is_some (port_named g.vtep.rows port) then record { gateway = g; answer = frame_answer g.vtep.rows port (frame_of bytes) }
-    else refused g NoPort
+on_frame g port bytes = if is_some (port_named g.vtep.rows port) then frame_step g port (frame_of bytes) else refused g NoPort
 
 -- ---- a packet from the underlay, of which source and destination, network and frame are read
 
-abbrev pub packet_answer : Rows → Result (ℕ × ℕ × ℕ × Bytes) PacketFault → Answer
-packet_answer r (Ok p) = if p.1 == own_ip r then forwarded r (origin.Tunnel p.2) p.3 else dropped reason.Address
-packet_answer r (Err fault) = dropped (reason.Packet fault)
+abbrev pub packet_answer : Vtep → Result (ℕ × ℕ × ℕ × Bytes) PacketFault → Answer
+packet_answer v (Ok p) = if p.1 == own_ip v.rows then forwarded v (origin.Tunnel p.2) p.3 else dropped reason.Address
+packet_answer v (Err fault) = dropped (reason.Packet fault)
 
 abbrev pub on_underlay : Gateway → Bytes → Step
-on_underlay g bytes = record { gateway = g; answer = packet_answer g.vtep.rows (packet_of bytes) }
+on_underlay g bytes = record { gateway = g; answer = packet_answer g.vtep (packet_of bytes) }

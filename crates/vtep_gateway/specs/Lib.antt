@@ -1,12 +1,14 @@
 pub mod Names
 pub mod Monitors
 pub mod Vtep
-pub mod Gateway
 pub mod Commit
+pub mod Learning
+pub mod Gateway
 pub mod CommitFaults
 pub mod Ports
 pub mod Settled
 pub mod Frames
+pub mod Good
 pub mod Ready
 pub mod Methods
 pub mod Sessions

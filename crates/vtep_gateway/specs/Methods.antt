@@ -15,18 +15,16 @@ use Rattle.vtep_gateway.specs.declared.Outgoing.{Outgoing}
 use Rattle.vtep_gateway.specs.declared.methods.Method.{Method}
 use Rattle.vtep_gateway.specs.declared.methods.Method.TheVariants.{Echo, ListDbs, GetSchema, Transact, Monitor, MonitorCancel}
 use Rattle.vtep_rows.specs.declared.soundness.Rule.{Rule}
-use Rattle.vtep_rows.specs.declared.differences.RowChange.{RowChange}
-use Rattle.vtep_rows.specs.Changes.{changes}
-use Rattle.vtep_rows.specs.Rows.{Rows}
 use Rattle.transact_profile.specs.Meaning.{Reply, Outcome, means}
 use Rattle.transact_profile.specs.Transaction.{ops_in}
 use Rattle.transact_profile.specs.Finish.{finished}
 use Rattle.vtep_base.specs.Chains.{or_refuse, ◌>>=◌}
 use Rattle.monitor_updates.specs.Requests.{request_of}
 use Rattle.monitor_updates.specs.Updates.{opening_json}
-use Rattle.vtep_gateway.specs.Monitors.{OpenMonitor, monitors_of, with_monitor, told_all, is_free, asks, left_by}
-use Rattle.vtep_gateway.specs.Vtep.{Vtep, with_rows, with_monitors}
-use Rattle.vtep_gateway.specs.Commit.{commit}
+use Rattle.vtep_gateway.specs.Monitors.{OpenMonitor, monitors_of, with_monitor, is_free, asks, left_by}
+use Rattle.local_tables.specs.Followed.{Committed}
+use Rattle.vtep_gateway.specs.Vtep.{Vtep, with_monitors}
+use Rattle.vtep_gateway.specs.Commit.{Taken, committed, commit_of}
 
 abbrev pub method_of : Bytes → Option Method
 method_of name =
@@ -70,36 +68,21 @@ or_word (Err w) d = Err w
 abbrev pub schema_in : Data → Result Data Word
 schema_in params = or_word (in_database params) schema_json
 
--- the results, and the rows after them, or the rule that these break
-abbrev pub ended : List Reply → Result Rows Rule → Data × Option Rows
-ended results (Ok r) = (finished results None, Some r)
-ended results (Err rule) = (finished results (Some rule), None)
+-- the results, and what is kept, or the rule that the rows break
+abbrev pub ended : Vtep → List Reply → Result Committed Rule → Done
+ended v results (Ok c) = let t : Taken = committed v c in record { vtep = t.vtep; before = t.sends; result = Ok (finished results None) }
+ended v results (Err rule) = only v (Ok (finished results (Some rule)))
 
--- what a transaction answers, and the rows that it leaves: a transaction that fails or that breaks a rule leaves none
-abbrev pub transacted : Outcome → Data × Option Rows
-transacted o = if o.failed then (finished o.results None, None) else ended o.results (commit o.rows)
-
--- the change of the rows, where they are kept
-abbrev pub IsChange : Option (List RowChange) → Rows → Option Rows → Type 0
-IsChange None old None = Unit {0}
-IsChange (Some change) old (Some new) = change ≡ changes old new
-IsChange _ old _ = ⊥
+-- a transaction that fails or that breaks a rule leaves all as it was
+abbrev pub transacted : Vtep → Outcome → Done
+transacted v o = if o.failed then only v (Ok (finished o.results None)) else ended v o.results (commit_of v o.rows v.learned)
 
 -- an operation fails, or the rows after all of them break a rule
-abbrev pub fails : Outcome → Bool
-fails o = o.failed || is_err (commit o.rows)
-
-abbrev pub keep : Vtep → Option Rows → Vtep
-keep v None = v
-keep v (Some r) = with_rows v r
-
--- the monitors are told how the rows differ
-abbrev pub tells : Vtep → Option Rows → List Outgoing
-tells v None = []
-tells v (Some r) = told_all v.rows r v.monitors
+abbrev pub fails : Vtep → Outcome → Bool
+fails v o = o.failed || is_err (commit_of v o.rows v.learned)
 
 abbrev pub transact_in : Vtep → Data → Result ⊤ Word → Done
-transact_in v params (Ok _) = let t : Data × Option Rows = transacted (means (ops_in params) v.rows) in record { vtep = keep v t.1; before = tells v t.1; result = Ok t.0 }
+transact_in v params (Ok _) = transacted v (means (ops_in params) v.rows)
 transact_in v params (Err w) = only v (Err w)
 
 -- the monitor that is asked for, or the first refusal: of the parameters' form, of the database, of the name, and of what is asked of the tables

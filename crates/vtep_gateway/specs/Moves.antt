@@ -1,18 +1,16 @@
 -- What a gateway does with an event.
-use Rattle.std.specs.Prelude.{ℕ, if◌then◌else◌, Option, Some, None, Result, Ok, Err}
+use Rattle.std.specs.Prelude.{ℕ, if◌then◌else◌, Option, Some, None}
 use Rattle.vtep_base.specs.Reading.{Bytes}
 use Rattle.vtep_base.specs.Maps as maps
-use Rattle.vtep_rows.specs.declared.soundness.Rule.{Rule}
-use Rattle.vtep_rows.specs.Rows.{Rows}
 use Rattle.vtep_gateway.specs.declared.Event.{Event}
 use Rattle.vtep_gateway.specs.declared.Event.TheVariants as event
 use Rattle.vtep_gateway.specs.declared.EventRefused.{EventRefused}
 use Rattle.vtep_gateway.specs.declared.EventRefused.TheVariants.{NoSession, NoPort}
-use Rattle.vtep_gateway.specs.Gateway.{Gateway, Step, nothing, unchanged, refused}
+use Rattle.vtep_gateway.specs.Gateway.{Gateway, Step, nothing, refused}
 use Rattle.vtep_gateway.specs.Sessions.{on_bytes}
-use Rattle.vtep_gateway.specs.Vtep.{with_rows, with_monitors}
-use Rattle.vtep_gateway.specs.Monitors.{told_all}
-use Rattle.vtep_gateway.specs.Commit.{commit}
+use Rattle.vtep_gateway.specs.Vtep.{with_monitors}
+use Rattle.vtep_gateway.specs.Commit.{Taken, changed}
+use Rattle.vtep_gateway.specs.Learning.{aged}
 use Rattle.vtep_gateway.specs.Ports.{port_named, port_refusal, with_port, without_port}
 use Rattle.vtep_gateway.specs.Frames.{on_frame, on_underlay}
 
@@ -23,16 +21,12 @@ hung_up g s = record { vtep = with_monitors g.vtep (maps.remove g.vtep.monitors 
 abbrev pub on_hangup : Gateway → ℕ → Step
 on_hangup g s = if maps.has g.streams s then record { gateway = hung_up g s; answer = nothing } else refused g NoSession
 
--- the rows are kept where they break no rule, and the monitors are told how they differ
-abbrev pub settled : Gateway → Result Rows Rule → Step
-settled g (Ok r) = record { gateway = record g { vtep = with_rows g.vtep r }; answer = record nothing { sends = told_all g.vtep.rows r g.vtep.monitors } }
-settled g (Err rule) = unchanged g
-
-abbrev pub changed : Gateway → Rows → Step
-changed g r = settled g (commit r)
+-- what a commit leaves, and the monitors are told how the rows differ
+abbrev pub settled : Gateway → Taken → Step
+settled g t = record { gateway = record g { vtep = t.vtep }; answer = record nothing { sends = t.sends } }
 
 abbrev pub port_unless : Gateway → Bytes → Option EventRefused → Step
-port_unless g name None = changed g (with_port g.vtep.rows name)
+port_unless g name None = settled g (changed g.vtep (with_port g.vtep.rows name) g.vtep.learned)
 port_unless g name (Some why) = refused g why
 
 abbrev pub on_port : Gateway → Bytes → Step
@@ -40,7 +34,7 @@ on_port g name = port_unless g name (port_refusal g.vtep.rows name)
 
 abbrev pub unport_by : Gateway → Option ℕ → Step
 unport_by g None = refused g NoPort
-unport_by g (Some id) = changed g (without_port g.vtep.rows id)
+unport_by g (Some id) = settled g (changed g.vtep (without_port g.vtep.rows id) g.vtep.learned)
 
 abbrev pub on_unport : Gateway → Bytes → Step
 on_unport g name = unport_by g (port_named g.vtep.rows name)
@@ -53,3 +47,4 @@ step g (event.Port name) = on_port g name
 step g (event.Unport name) = on_unport g name
 step g (event.Frame port bytes) = on_frame g port bytes
 step g (event.Underlay bytes) = on_underlay g bytes
+step g (event.Age seconds) = settled g (aged g.vtep seconds)

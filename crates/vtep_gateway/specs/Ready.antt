@@ -1,23 +1,17 @@
--- The forwarding state that a gateway keeps beside its rows. No address is learnt.
-use Rattle.std.specs.Prelude.{◌≡◌, false, List, [], Option, Some, None}
-use Rattle.vtep_rows.specs.declared.differences.RowChange.{RowChange}
+-- The forwarding state that a gateway keeps beside its rows and what it has learnt.
+use Rattle.std.specs.Prelude.{◌≡◌, false, List}
 use Rattle.vtep_rows.specs.Rows.{Rows}
-use Rattle.vtep_rows.specs.Changes.{changes}
+use Rattle.mac_learning.specs.declared.Learnt.{Learnt}
 use Rattle.forward_program.specs.Spots.{State}
 use Rattle.forward_program.specs.Shown.{shown}
 use Rattle.vtep_gateway.specs.Gateway.{Running}
-use Rattle.vtep_gateway.specs.Settled.{IsSettled}
+use Rattle.vtep_gateway.specs.Good.{IsGood}
 
--- what the rows have in it, where no address is learnt
-abbrev pub fib_of : Rows → State
-fib_of r = record { entries = shown r []; broken = false }
+-- what the rows and the learnt addresses have in it
+abbrev pub fib_of : Rows → List Learnt → State
+fib_of r l = record { entries = shown r l; broken = false }
 
--- the rows are settled, and the forwarding state is theirs
+-- all is good, and the forwarding state is theirs
 pub record IsReady (g : Running) : Type 0 where
-  pub settled : IsSettled g.state.vtep.rows
-  pub fib : g.fib ≡ fib_of g.state.vtep.rows
-
--- a change leads from some rows to others; none leaves them as they are
-abbrev pub Leads : Option (List RowChange) → Rows → Rows → Type 0
-Leads None old new = new ≡ old
-Leads (Some change) old new = change ≡ changes old new
+  pub good : IsGood g.state.vtep.rows g.state.vtep.learned
+  pub fib : g.fib ≡ fib_of g.state.vtep.rows g.state.vtep.learned

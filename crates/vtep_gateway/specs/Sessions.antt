@@ -11,16 +11,9 @@ use Rattle.rpc_framing.specs.Streams.{Stream, opened, fed}
 use Rattle.rpc_framing.specs.Pieces.{Coming, come}
 use Rattle.vtep_gateway.specs.declared.Outgoing.{Outgoing}
 use Rattle.vtep_gateway.specs.Vtep.{Vtep}
+use Rattle.vtep_gateway.specs.Commit.{Taken, quiet}
 use Rattle.vtep_gateway.specs.Methods.{Done, method_of, called}
 use Rattle.vtep_gateway.specs.Gateway.{Gateway, Streams, Step, nothing}
-
--- the tunnel end point after messages, and what is sent
-pub record Taken : Type 0 where
-  pub vtep : Vtep
-  pub sends : List Outgoing
-
-abbrev pub quiet : Vtep → Taken
-quiet v = record { vtep = v; sends = [] }
 
 abbrev pub then_takes : List Outgoing → Taken → Taken
 then_takes sends later = record later { sends = sends ++ later.sends }

@@ -1,5 +1,6 @@
 -- What a gateway that is not stopped always has, and what sessions leave as it is.
-use Rattle.std.specs.Prelude.{◌≡◌, ◌<◌, ◌^◌, ℕ, true, false, Bool, ◌&&◌, List, [], ◌∷◌, map, Option, Some, None}
+use Rattle.std.specs.Prelude.{◌≡◌, ◌<◌, ◌^◌, ℕ, true, false, Bool, ◌&&◌, nat_lt, List, [], ◌∷◌, map, Option, Some, None}
+use Rattle.std.specs.List.{list_all}
 use Rattle.vtep_base.specs.Reading.{Bytes}
 use Rattle.vtep_base.specs.Texts.{is_name}
 use Rattle.vtep_base.specs.Maps as maps
@@ -33,9 +34,10 @@ pub record IsSettled (r : Rows) : Type 0 where
   pub fits : ip < 2 ^ 32
   pub switch : row_at r (PhysicalSwitch, switch_id r) ≡ Some (switch_with name ip (ids_of PhysicalPort r))
 
--- the name of a port is one
+-- names of ports are names, and frames are bytes
 abbrev pub IsEvent : Event → Type 0
 IsEvent (event.Port name) = is_name name ≡ true
+IsEvent (event.Frame port bytes) = (is_name port ≡ true) × (list_all (λ b. nat_lt b 256) bytes ≡ true)
 IsEvent _ = Unit {0}
 
 -- ---- what sessions leave

@@ -19,6 +19,8 @@ pub struct Answer<L: Ledger> {
     /// The refusal of the stream that the piece came to: its place, counted in bytes from the session's first one, and why. Each
     /// later piece of the session has the same one.
     pub failed: Option<Framing>,
+    /// Whether the source of a frame is a new address that could not be learnt: 2,048 are, or no row number is left.
+    pub full: bool,
     /// The frames that leave ports, by port name and VLAN, and the packets that go to the underlay, by ascending address.
     pub sent: Sent<L>,
     /// Why the frame or the packet goes nowhere.
@@ -38,6 +40,7 @@ impl<L: Ledger> Model for Answer<L> {
     ghost view = { λ a. record {
       sends = a.sends;
       failed = a.failed;
+      full = a.full;
       sent = a.sent;
       dropped = a.dropped;
       refused = a.refused;
@@ -52,6 +55,7 @@ impl<L: Ledger> Answer<L> {
         Answer {
             sends: List::new(alloc),
             failed: None,
+            full: false,
             sent: Sent::new(alloc),
             dropped: None,
             refused: None,

@@ -1,19 +1,18 @@
-//! What follows a change of the rows.
+//! What follows a change of the rows or of what is learnt.
 
-ghost use Rattle.std.specs.Prelude.{◌≡◌, false, Ok, Err, IfOk, IfErr, OnOk};
+ghost use Rattle.std.specs.Prelude.{◌≡◌, ◌<◌, ◌^◌, Ok, Err, IsOk, IfOk, IfErr};
 ghost use Rattle.vtep_base.specs.Answers.{OrMemory};
 ghost use Rattle.vtep_rows.specs.Changes.{changes};
-ghost use Rattle.vtep_rows.specs.Rows.{Rows as AllRows, collected};
-ghost use Rattle.vtep_gateway.specs.Commit.{commit};
+ghost use Rattle.local_tables.specs.Followed.{commit};
+ghost use Rattle.local_tables.specs.Following.{without_all};
+ghost use Rattle.local_tables.specs.Local.{IsChanged};
 ghost use Rattle.vtep_gateway.specs.CommitFaults.{rule_of};
-ghost use Rattle.vtep_gateway.specs.Settled.{IsSettled};
-ghost use Rattle.vtep_gateway.specs.Ready.{fib_of};
 
-use forward_program::Fib;
-use mac_learning::Learned;
+use local_tables::follow;
+use mac_learning::{Learned, Learnt};
 use std::alloc::Global;
-use vtep_base::{Ledger, OutOfMemory, Steps};
-use vtep_rows::{Change, Database, Rows, Rule};
+use vtep_base::{Ipv4, List, OutOfMemory};
+use vtep_rows::{Change, Database, RowsFault, Rule};
 
 /// Why a change is not kept.
 #[derive(Clone, Copy, Drop)]
@@ -34,53 +33,82 @@ impl From<OutOfMemory> for CommitFault {
     }
 }
 
-/// Takes away the rows that are to be named and that nothing names, and checks the rules. Gives the rows that differ from those
-/// before the change, or takes these back. It costs the rows that were written, not all rows.
-pub(crate) fn commit(alloc: Global, database: &mut Database) -> Result<Change, CommitFault>
-    requires settled { IsSettled database.old.committed }
-    ensures rows { OnOk result (commit database.old.current ≡ Ok database.new.current) }
-    ensures change { IfOk result
-        (λ change. change ≡ changes database.old.committed database.new.current) }
-    ensures broken { IfErr result (λ fault. OrMemory (rule_of fault)
-        (λ rule. (commit database.old.current ≡ Err rule)
-        × (database.new.current ≡ database.old.committed))) }
-{
-    database.collect()?;
-    if let Some(rule) = database.broken() {
-        database.roll_back()?;
-        return Err(CommitFault::Broken(rule));
-    }
-    Ok(database.commit(alloc)?)
+/// What a commit comes to.
+#[derive(Drop)]
+pub(crate) struct Kept {
+    /// How the rows differ.
+    pub(crate) change: Change,
+    /// The learnt entries that have to go.
+    pub(crate) gone: List<Learnt>,
 }
 
-/// Takes away the rows that are to be named and that nothing names, of a change that breaks no rule. Gives the rows that differ
-/// from those before it.
+/// The rows are again what they were before a change that breaks a rule.
+fn take_back(database: &mut Database, rule: Rule) -> Result<Kept, CommitFault>
+    ensures back { IfErr result (λ fault. OrMemory (rule_of fault)
+        (λ why. (why ≡ rule) × (database.new.current ≡ database.old.committed))) }
+    ensures never { IsOk result → ⊥ }
+{
+    database.roll_back()?;
+    Err(CommitFault::Broken(rule))
+}
+
+/// The Local tables follow a change of the rows of a gateway with this tunnel address, and the rules are checked. Gives the rows that
+/// differ from those before the change and the learnt entries that have to go, or takes the rows back. It costs the rows that were
+/// written, not all rows.
+pub(crate) fn commit(
+    alloc: Global,
+    database: &mut Database,
+    own: Ipv4,
+    learned: &Learned,
+) -> Result<Kept, CommitFault>
+    requires changed { IsChanged own database.old.committed database.old.current
+        learned.now.entries }
+    requires fits { own < 2 ^ 32 }
+    ensures kept { IfOk result
+        (λ kept. commit own database.old.committed database.old.current learned.now.entries
+        ≡ Ok (record
+        { rows = database.new.current; learned = without_all kept.gone learned.now.entries })) }
+    ensures change { IfOk result
+        (λ kept. kept.change ≡ changes database.old.committed database.new.current) }
+    ensures broken { IfErr result (λ fault. OrMemory (rule_of fault)
+        (λ rule. (commit own database.old.committed database.old.current learned.now.entries
+        ≡ Err rule) × (database.new.current ≡ database.old.committed))) }
+{
+    match follow(alloc, database, own, learned) {
+        Ok(gone) => {
+            // It says that no number past the last one was given.
+            let _ = database.rows().counter();
+            if let Some(rule) = database.broken() {
+                return take_back(database, rule);
+            }
+            let change = database.commit(alloc)?;
+            Ok(Kept { change, gone })
+        }
+        Err(RowsFault::Spent) => take_back(database, Rule::Limit),
+        Err(RowsFault::OutOfMemory) => Err(CommitFault::OutOfMemory),
+    }
+}
+
+/// The same of a change that breaks no rule, without a check.
 pub(crate) fn commit_unchecked(
     alloc: Global,
     database: &mut Database,
-) -> Result<Change, OutOfMemory>
-    requires settled { IsSettled database.old.committed }
-    ensures rows { OnOk result (database.new.current ≡ collected database.old.current) }
+    own: Ipv4,
+    learned: &Learned,
+) -> Result<Kept, OutOfMemory>
+    requires changed { IsChanged own database.old.committed database.old.current
+        learned.now.entries }
+    requires fits { own < 2 ^ 32 }
+    requires kept { IsOk (commit own database.old.committed database.old.current
+        learned.now.entries) }
+    ensures kept { IfOk result
+        (λ kept. commit own database.old.committed database.old.current learned.now.entries
+        ≡ Ok (record
+        { rows = database.new.current; learned = without_all kept.gone learned.now.entries })) }
     ensures change { IfOk result
-        (λ change. change ≡ changes database.old.committed database.new.current) }
+        (λ kept. kept.change ≡ changes database.old.committed database.new.current) }
 {
-    database.collect()?;
-    database.commit(alloc)
-}
-
-/// The forwarding state follows a commit that led to these rows by this change. No address is learnt.
-pub(crate) fn follow<L: Ledger>(
-    alloc: Global,
-    rows: &Rows,
-    change: &Change,
-    fib: &mut Fib<L>,
-    steps: &mut Steps<L>,
-) -> Result<(), OutOfMemory>
-    requires settled { IsSettled rows.now }
-    requires going { fib.old.broken ≡ false }
-    ensures { (before : AllRows) → IsSettled before → change.now ≡ changes before rows.now
-        → fib.old ≡ fib_of before → OnOk result (fib.new ≡ fib_of rows.now) }
-{
-    let nothing = Learned::new(alloc, 0);
-    fib.apply(alloc, rows, &nothing, change, &[], steps)
+    let gone = follow(alloc, database, own, learned).map_err(|_| OutOfMemory)?;
+    let change = database.commit(alloc)?;
+    Ok(Kept { change, gone })
 }

@@ -1,12 +1,13 @@
 //! A gateway and its step.
 
-ghost use Rattle.std.specs.Prelude.{◌≡◌, ◌++◌, [], true, false, is_some, IfOk, OnOk, OnErr};
+ghost use Rattle.std.specs.Prelude.{◌≡◌, ◌++◌, true, false, is_some, IfOk, OnOk, OnErr};
 ghost use Rattle.forward_program.specs.Joins.{facts_of};
 ghost use Rattle.forward_program.specs.Shown.{shown};
 ghost use Rattle.forward_program.specs.Readings.{own_ip};
 ghost use Rattle.vtep_gateway.specs.Gateway.{new_gateway};
 ghost use Rattle.vtep_gateway.specs.Ports.{port_named};
-ghost use Rattle.vtep_gateway.specs.Settled.{IsSettled};
+ghost use Rattle.vtep_gateway.specs.Learning.{most_learnt};
+ghost use Rattle.vtep_gateway.specs.Good.{IsGood};
 ghost use Rattle.vtep_gateway.specs.Ready.{fib_of};
 ghost use Rattle.vtep_gateway.specs.Show.{show_text};
 ghost use Rattle.vtep_gateway.specs.Moves.{step};
@@ -16,6 +17,7 @@ use crate::ports::has_port;
 use crate::running::Running;
 use crate::{Answer, Event};
 use forward_program::Fib;
+use mac_learning::Learned;
 use std::alloc::Global;
 use std::marker::Model;
 use vtep_base::{Bytes, Ipv4, Ledger, Name, OutOfMemory, Steps};
@@ -67,19 +69,29 @@ impl<L: Ledger> Gateway<L> {
         own_address(self.rows())
     }
 
-    /// The rows of its database, as the last commit left them. Where it is not stopped they are sound and collected, and there is
-    /// one row of Physical_Switch, with one tunnel address, of which the rows of Physical_Port are the ports.
+    /// The rows of its database, as the last commit left them. Where it is not stopped they are sound and collected, there is
+    /// one row of Physical_Switch, with one tunnel address, of which the rows of Physical_Port are the ports, and the Local tables are
+    /// those of what is learnt and of the switches that are bound.
     pub fn rows(&self) -> &Rows
         ensures value { result.now ≡ self.now.state.vtep.rows }
-        ensures settled { self.now.stopped ≡ false → IsSettled result.now }
+        ensures good { self.now.stopped ≡ false → IsGood result.now self.now.state.vtep.learned }
     {
         self.running.rows()
     }
 
-    /// The forwarding state. Where the gateway is not stopped, it is what its rows have in it, so that its facts are those that are
-    /// built from the rows.
+    /// The addresses that it has learnt, in the order of learning, of which 2,048 may be.
+    pub fn learned(&self) -> &Learned
+        ensures entries { result.now.entries ≡ self.now.state.vtep.learned }
+        ensures limit { result.now.limit ≡ most_learnt }
+    {
+        self.running.learned()
+    }
+
+    /// The forwarding state. Where the gateway is not stopped, it is what its rows and learnt addresses have in it, so that its facts
+    /// are those that are built from them.
     pub fn fib(&self) -> &Fib<L>
-        ensures { self.now.stopped ≡ false → result.now ≡ fib_of self.now.state.vtep.rows }
+        ensures { self.now.stopped ≡ false
+            → result.now ≡ fib_of self.now.state.vtep.rows self.now.state.vtep.learned }
     {
         self.running.fib()
     }
@@ -104,7 +116,7 @@ impl<L: Ledger> Gateway<L> {
     pub fn show(&self, out: &mut Bytes) -> Result<(), OutOfMemory>
         requires going { self.now.stopped ≡ false }
         ensures ok { OnOk result (out.new ≡ out.old ++ show_text self.now.state.vtep.name
-            self.now.state.vtep.rows (facts_of (shown self.now.state.vtep.rows []))) }
+            self.now.state.vtep.rows (facts_of (shown self.now.state.vtep.rows self.now.state.vtep.learned))) }
         ensures err { OnErr result (out.new ≡ out.old) }
     {
         self.running.show(out)
@@ -115,7 +127,8 @@ impl<L: Ledger> Gateway<L> {
     /// A piece of a session's bytes is never refused; where its stream is, `failed` says so, and the messages before keep their
     /// effect. `Hangup` is refused with `NoSession` where the session is not open, `Port` with `Repeated` where the port is there and
     /// with `Ports` where 64 are or no row number is left, `Unport` and `Frame` with `NoPort` where it is not there. What is refused
-    /// changes nothing. The one error is want of memory, after which the gateway is stopped.
+    /// changes nothing. A frame of a bound VLAN teaches its source, unless that is the address of a group; `full` says where a new one
+    /// could not be learnt. `Age` forgets what was not seen for 300 seconds. The one error is want of memory, after which the gateway is stopped.
     pub fn step(&mut self, event: &Event, steps: &mut Steps<L>) -> Result<Answer<L>, OutOfMemory>
         requires going { self.old.stopped ≡ false }
         ensures ok { IfOk result (λ a. step self.old.state event.now

@@ -1,6 +1,6 @@
 //! Laws of the definitions: what is refused changes nothing, how updates are sent, and that names are values.
 
-ghost use Rattle.std.specs.Prelude.{◌≡◌, ℕ, ◌<◌, ◌≤◌, ◌^◌, length, true, [], ◌∷◌, None, Some, Ok, codes};
+ghost use Rattle.std.specs.Prelude.{◌≡◌, ℕ, ◌<◌, ◌^◌, List, true, [], ◌∷◌, None, Some, IsOk, codes};
 ghost use Rattle.serde_json.specs.Data.{Data};
 ghost use Rattle.serde_json.specs.Written.{compact_text};
 ghost use Rattle.json_notation.specs.Json.{list};
@@ -15,10 +15,18 @@ ghost use Rattle.vtep_gateway.specs.declared.Event.{Event};
 ghost use Rattle.vtep_gateway.specs.declared.Event.TheVariants as event;
 ghost use Rattle.vtep_gateway.specs.declared.EventRefused.{EventRefused};
 ghost use Rattle.vtep_base.specs.Texts.{is_name};
-ghost use Rattle.vtep_rows.specs.Rows.{Rows, IsRows, opening, collected};
-ghost use Rattle.vtep_gateway.specs.Commit.{commit};
+ghost use Rattle.vtep_rows.specs.Rows.{Rows, IsRows, opening};
+ghost use Rattle.mac_learning.specs.declared.Learn.TheVariants as learn;
+ghost use Rattle.mac_learning.specs.declared.Learnt.{Learnt};
+ghost use Rattle.mac_learning.specs.Learning.{put, kept_at};
+ghost use Rattle.forward_program.specs.Readings.{own_ip};
+ghost use Rattle.local_tables.specs.LocalRows.{is_individual};
+ghost use Rattle.local_tables.specs.Followed.{is_bound_there, commit};
+ghost use Rattle.vtep_gateway.specs.Commit.{commit_of};
+ghost use Rattle.vtep_gateway.specs.Learning.{learns_in};
+ghost use Rattle.vtep_gateway.specs.Good.{IsGood};
 ghost use Rattle.vtep_gateway.specs.Ports.{port_refusal, with_port, without_port};
-ghost use Rattle.vtep_gateway.specs.Settled.{IsSettled, IsEvent, LeavesRest};
+ghost use Rattle.vtep_gateway.specs.Settled.{IsEvent, LeavesRest};
 ghost use Rattle.vtep_gateway.specs.Names.{IsWhole};
 ghost use Rattle.vtep_gateway.specs.Vtep.{Vtep};
 ghost use Rattle.vtep_gateway.specs.Gateway.{Gateway};
@@ -33,9 +41,10 @@ pub fn refused_changes_nothing()
         → (step g e).gateway ≡ g }
 {}
 
-/// A transaction of which an operation fails, or which leaves rows that break a rule, changes no row and gives no number.
+/// A transaction of which an operation fails, or which leaves rows that break a rule, changes no row, gives no number, and takes no
+/// learnt address away.
 pub fn failed_changes_nothing()
-    ensures { (v : Vtep) (params : Data) → fails (means (ops_in params) v.rows) ≡ true
+    ensures { (v : Vtep) (params : Data) → fails v (means (ops_in params) v.rows) ≡ true
         → (transact_in v params (in_database params)).vtep ≡ v }
 {}
 
@@ -59,23 +68,31 @@ pub fn names_are_values()
     ensures { (a b : Data) → IsWhole a → IsWhole b → compact_text a ≡ compact_text b → a ≡ b }
 {}
 
-/// A new gateway's rows are sound and collected, and have the one row of Physical_Switch with its tunnel address and its ports.
-pub fn new_is_settled()
-    ensures { (name : Bytes) (ip : ℕ) → is_name name ≡ true → ip < 2 ^ 32 → IsSettled (opening name ip) }
+/// A new gateway's rows are sound and collected, have the one row of Physical_Switch with its tunnel address and its ports, and no
+/// row of a Local table; and it has learnt nothing.
+pub fn new_is_good()
+    ensures { (name : Bytes) (ip : ℕ) → is_name name ≡ true → ip < 2 ^ 32 → IsGood (opening name ip) [] }
 {}
 
-/// Every event leaves rows that are sound and collected, with the one row of Physical_Switch, its tunnel address and its ports.
-pub fn events_keep_settled()
-    ensures { (g : Gateway) (e : Event) → IsEvent e → IsSettled g.vtep.rows
-        → IsSettled (step g e).gateway.vtep.rows }
+/// Every event leaves rows that are sound and collected, with the one row of Physical_Switch, its tunnel address and its ports, and
+/// Local tables that are those of what is learnt and of the bound switches.
+pub fn events_keep_good()
+    ensures { (g : Gateway) (e : Event) → IsEvent e → IsGood g.vtep.rows g.vtep.learned
+        → IsGood (step g e).gateway.vtep.rows (step g e).gateway.vtep.learned }
 {}
 
-/// The commit of a port that comes or goes never breaks a rule.
-pub fn ports_commit()
-    ensures comes { (r : Rows) (name : Bytes) → IsSettled r → is_name name ≡ true
-        → port_refusal r name ≡ None → commit (with_port r name) ≡ Ok (with_port r name) }
-    ensures goes { (r : Rows) (id : ℕ) → IsSettled r
-        → commit (without_port r id) ≡ Ok (collected (without_port r id)) }
+/// The commit of a port that comes or goes, of an address that is learnt or moves, and of ageing never breaks a rule.
+pub fn other_commits_are_kept()
+    ensures port_comes { (r : Rows) (l : List Learnt) (name : Bytes) → IsGood r l
+        → is_name name ≡ true → port_refusal r name ≡ None
+        → IsOk (commit (own_ip r) r (with_port r name) l) }
+    ensures port_goes { (r : Rows) (l : List Learnt) (id : ℕ) → IsGood r l
+        → IsOk (commit (own_ip r) r (without_port r id) l) }
+    ensures learning { (v : Vtep) (new : Learnt) → IsGood v.rows v.learned
+        → is_individual new.mac ≡ true → is_bound_there v.rows new ≡ true
+        → (learns_in v new ≡ learn.Full → ⊥) → IsOk (commit_of v v.rows (put new v.learned)) }
+    ensures ageing { (r : Rows) (l : List Learnt) (now : ℕ) → IsGood r l
+        → IsOk (commit (own_ip r) r r (kept_at now l)) }
 {}
 
 /// The operations of a transaction leave the tables that are not open to sessions with the same rows, and change no column of

@@ -6,6 +6,7 @@ mod commit;
 mod frames;
 mod gateway;
 mod laws;
+mod learning;
 mod lines;
 mod methods;
 mod monitoring;
@@ -22,9 +23,9 @@ pub use answer::Answer;
 use ether_frames::FrameFault;
 pub use gateway::Gateway;
 pub use laws::{
-    events_keep_settled, failed_changes_nothing, names_are_values, new_is_settled, ports_commit,
-    refused_changes_nothing, sessions_leave_the_rest, unfinished_changes_nothing,
-    updates_are_notifications,
+    events_keep_good, failed_changes_nothing, names_are_values, new_is_good,
+    other_commits_are_kept, refused_changes_nothing, sessions_leave_the_rest,
+    unfinished_changes_nothing, updates_are_notifications,
 };
 pub use show::each_fact_has_a_line;
 use vtep_base::{Bytes, Name};
@@ -45,6 +46,8 @@ pub enum Event {
     Frame { port: Name, bytes: Bytes },
     /// A packet comes from the underlay.
     Underlay { bytes: Bytes },
+    /// The clock goes on by so many seconds.
+    Age { seconds: u32 },
 }
 
 /// A message that goes to a session.

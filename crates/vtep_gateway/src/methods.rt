@@ -1,22 +1,23 @@
 //! What a request does (RFC 7047, section 4.1).
 
-ghost use Rattle.std.specs.Prelude.{◌≡◌, ◌++◌, [], false, unwrap_or, None, Ok, IfOk, OnOk};
+ghost use Rattle.std.specs.Prelude.{◌≡◌, ◌++◌, [], false, Ok, IfOk, OnOk};
 ghost use Rattle.transact_profile.specs.Meaning.{means};
 ghost use Rattle.transact_profile.specs.Transaction.{ops_in};
 ghost use Rattle.serde_json.specs.View.{view};
 ghost use Rattle.serde_json.specs.Written.{has_float};
-ghost use Rattle.vtep_gateway.specs.Methods.{method_of, in_database, databases, schema_in, transacted, IsChange, transact_in, called, seen};
-ghost use Rattle.vtep_gateway.specs.Settled.{IsSettled};
-ghost use Rattle.vtep_gateway.specs.Ready.{Leads};
+ghost use Rattle.vtep_gateway.specs.Methods.{method_of, in_database, databases, schema_in, transacted, transact_in, called, seen};
+ghost use Rattle.vtep_gateway.specs.Good.{IsGood};
+ghost use Rattle.vtep_gateway.specs.Ready.{fib_of};
 
 use crate::Outgoing;
 use crate::commit::{CommitFault, commit};
+use crate::frames::own_address;
 use crate::vtep::Vtep;
+use forward_program::Fib;
 use serde_json::Value;
 use std::alloc::Global;
 use transact_profile::{finish, read_ops, transact_on};
-use vtep_base::{List, OutOfMemory, Word};
-use vtep_rows::{Change, Database};
+use vtep_base::{Ledger, List, OutOfMemory, Steps, Word};
 
 /// The methods that are known.
 #[derive(Clone, Copy)]
@@ -27,26 +28,6 @@ pub(crate) enum Method {
     Transact,
     Monitor,
     MonitorCancel,
-}
-
-/// What a request comes to.
-#[derive(Drop)]
-pub(crate) struct Called {
-    /// The result, or the word of refusal.
-    pub(crate) outcome: Result<Value, Word>,
-    /// How the rows differ after it; None where they are as they were.
-    pub(crate) change: Option<Change>,
-}
-
-/// What a request comes to that changes no row.
-fn reads(outcome: Result<Value, Word>) -> Called
-    ensures outcome { result.outcome ≡ outcome }
-    ensures change { result.change ≡ None }
-{
-    Called {
-        outcome,
-        change: None,
-    }
 }
 
 /// The method of this name.
@@ -97,97 +78,106 @@ fn schema_in(alloc: Global, params: &Value) -> Result<Result<Value, Word>, OutOf
     }
 }
 
-/// Runs a transaction. Gives its results, and the rows that differ after it, unless it fails or they break a rule: then all is as
-/// it was.
-fn transacted(
-    alloc: Global,
-    database: &mut Database,
-    params: Value,
-) -> Result<(Value, Option<Change>), OutOfMemory>
-    requires { IsSettled database.old.current }
-    ensures value { IfOk result (λ t. view t.0
-        ≡ (transacted (means (ops_in (view params)) database.old.current)).0) }
-    ensures rows { OnOk result (database.new.current ≡ unwrap_or (transacted
-        (means (ops_in (view params)) database.old.current)).1 database.old.current) }
-    ensures change { IfOk result (λ t. IsChange t.1 database.old.current (transacted
-        (means (ops_in (view params)) database.old.current)).1) }
-    ensures plain { IfOk result (λ t. has_float (view t.0) ≡ false) }
-{
-    let ops = read_ops(alloc, &params)?;
-    // They may be the largest part of what is held, so neither stays longer than it has to.
-    drop(params);
-    database.begin();
-    let outcome = transact_on(alloc, database, &ops)?;
-    drop(ops);
-    if outcome.failed {
-        return Ok((finish(alloc, &outcome, None)?, None));
-    }
-    match commit(alloc, database) {
-        Ok(change) => Ok((finish(alloc, &outcome, None)?, Some(change))),
-        Err(CommitFault::Broken(rule)) => Ok((finish(alloc, &outcome, Some(rule))?, None)),
-        Err(CommitFault::OutOfMemory) => Err(OutOfMemory),
-    }
-}
-
 impl Vtep {
-    /// Runs a transaction, for those who name the database.
-    fn transact_in(
+    /// Runs a transaction, and gives its results. Where it fails or the rows break a rule, all is as it was. The forwarding state
+    /// follows.
+    fn transacted<L: Ledger>(
         &mut self,
         params: Value,
+        fib: &mut Fib<L>,
+        steps: &mut Steps<L>,
         sends: &mut List<Outgoing>,
-    ) -> Result<Called, OutOfMemory>
-        requires { IsSettled self.old.rows }
-        ensures left { IfOk result (λ _. self.new
-            ≡ (transact_in self.old (view params) (in_database (view params))).vtep) }
-        ensures before { IfOk result
-            (λ _. sends.new ≡ sends.old
-            ++ (transact_in self.old (view params) (in_database (view params))).before) }
-        ensures result { IfOk result
-            (λ c. seen c.outcome ≡ (transact_in self.old (view params)
-            (in_database (view params))).result) }
-        ensures change { IfOk result (λ c. Leads c.change self.old.rows self.new.rows) }
-        ensures plain { IfOk result (λ c. IfOk c.outcome (λ v. has_float (view v) ≡ false)) }
+    ) -> Result<Value, OutOfMemory>
+        requires good { IsGood self.old.rows self.old.learned }
+        requires fib { fib.old ≡ fib_of self.old.rows self.old.learned }
+        ensures left { OnOk result (self.new
+            ≡ (transacted self.old (means (ops_in (view params)) self.old.rows)).vtep) }
+        ensures before { OnOk result (sends.new ≡ sends.old
+            ++ (transacted self.old (means (ops_in (view params)) self.old.rows)).before) }
+        ensures result { IfOk result (λ v. Ok (view v)
+            ≡ (transacted self.old (means (ops_in (view params)) self.old.rows)).result) }
+        ensures good { OnOk result (IsGood self.new.rows self.new.learned) }
+        ensures fib { OnOk result (fib.new ≡ fib_of self.new.rows self.new.learned) }
+        ensures plain { IfOk result (λ v. has_float (view v) ≡ false) }
     {
-        if let Err(word) = in_database(&params) {
-            return Ok(reads(Err(word)));
+        let ops = read_ops(self.alloc, &params)?;
+        // They may be the largest part of what is held, so neither stays longer than it has to.
+        drop(params);
+        let own = own_address(self.rows());
+        self.database.begin();
+        let outcome = transact_on(self.alloc, &mut self.database, &ops)?;
+        drop(ops);
+        if outcome.failed {
+            return finish(self.alloc, &outcome, None);
         }
-        let (results, change) = transacted(self.alloc, &mut self.database, params)?;
-        if let Some(change) = &change {
-            self.monitors.tell(self.alloc, change, sends)?;
+        match commit(self.alloc, &mut self.database, own, &self.learned) {
+            Ok(kept) => {
+                self.conclude(kept, fib, steps, sends)?;
+                finish(self.alloc, &outcome, None)
+            }
+            Err(CommitFault::Broken(rule)) => finish(self.alloc, &outcome, Some(rule)),
+            Err(CommitFault::OutOfMemory) => Err(OutOfMemory),
         }
-        Ok(Called {
-            outcome: Ok(results),
-            change,
-        })
     }
 
-    /// Does what a session requests. Adds what is sent before the reply, and gives the result or the word of refusal.
-    pub(crate) fn called(
+    /// Runs a transaction, for those who name the database.
+    fn transact_in<L: Ledger>(
+        &mut self,
+        params: Value,
+        fib: &mut Fib<L>,
+        steps: &mut Steps<L>,
+        sends: &mut List<Outgoing>,
+    ) -> Result<Result<Value, Word>, OutOfMemory>
+        requires good { IsGood self.old.rows self.old.learned }
+        requires fib { fib.old ≡ fib_of self.old.rows self.old.learned }
+        ensures left { OnOk result (self.new
+            ≡ (transact_in self.old (view params) (in_database (view params))).vtep) }
+        ensures before { OnOk result (sends.new ≡ sends.old
+            ++ (transact_in self.old (view params) (in_database (view params))).before) }
+        ensures result { IfOk result (λ r. seen r
+            ≡ (transact_in self.old (view params) (in_database (view params))).result) }
+        ensures good { OnOk result (IsGood self.new.rows self.new.learned) }
+        ensures fib { OnOk result (fib.new ≡ fib_of self.new.rows self.new.learned) }
+        ensures plain { IfOk result (λ r. IfOk r (λ v. has_float (view v) ≡ false)) }
+    {
+        if let Err(word) = in_database(&params) {
+            return Ok(Err(word));
+        }
+        Ok(Ok(self.transacted(params, fib, steps, sends)?))
+    }
+
+    /// Does what a session requests. Adds what is sent before the reply, and gives the result or the word of refusal. The forwarding
+    /// state follows.
+    pub(crate) fn called<L: Ledger>(
         &mut self,
         session: u32,
         method: Option<Method>,
         params: Value,
+        fib: &mut Fib<L>,
+        steps: &mut Steps<L>,
         sends: &mut List<Outgoing>,
-    ) -> Result<Called, OutOfMemory>
-        requires settled { IsSettled self.old.rows }
+    ) -> Result<Result<Value, Word>, OutOfMemory>
+        requires good { IsGood self.old.rows self.old.learned }
+        requires fib { fib.old ≡ fib_of self.old.rows self.old.learned }
         requires plain { has_float (view params) ≡ false }
-        ensures left { IfOk result (λ _. self.new
+        ensures left { OnOk result (self.new
             ≡ (called self.old session method (view params)).vtep) }
-        ensures before { IfOk result
-            (λ _. sends.new ≡ sends.old ++ (called self.old session method (view params)).before) }
+        ensures before { OnOk result (sends.new
+            ≡ sends.old ++ (called self.old session method (view params)).before) }
         ensures result { IfOk result
-            (λ c. seen c.outcome ≡ (called self.old session method (view params)).result) }
-        ensures change { IfOk result (λ c. Leads c.change self.old.rows self.new.rows) }
-        ensures plain { IfOk result (λ c. IfOk c.outcome (λ v. has_float (view v) ≡ false)) }
+            (λ r. seen r ≡ (called self.old session method (view params)).result) }
+        ensures good { OnOk result (IsGood self.new.rows self.new.learned) }
+        ensures fib { OnOk result (fib.new ≡ fib_of self.new.rows self.new.learned) }
+        ensures plain { IfOk result (λ r. IfOk r (λ v. has_float (view v) ≡ false)) }
     {
         match method {
-            Some(Method::Echo) => Ok(reads(Ok(params))),
-            Some(Method::ListDbs) => Ok(reads(Ok(databases(self.alloc)?))),
-            Some(Method::GetSchema) => Ok(reads(schema_in(self.alloc, &params)?)),
-            Some(Method::Transact) => self.transact_in(params, sends),
-            Some(Method::Monitor) => Ok(reads(self.monitor(session, &params)?)),
-            Some(Method::MonitorCancel) => Ok(reads(self.monitor_cancel(session, &params)?)),
-            None => Ok(reads(Err(Word::UnknownMethod))),
+            Some(Method::Echo) => Ok(Ok(params)),
+            Some(Method::ListDbs) => Ok(Ok(databases(self.alloc)?)),
+            Some(Method::GetSchema) => schema_in(self.alloc, &params),
+            Some(Method::Transact) => self.transact_in(params, fib, steps, sends),
+            Some(Method::Monitor) => self.monitor(session, &params),
+            Some(Method::MonitorCancel) => self.monitor_cancel(session, &params),
+            None => Ok(Err(Word::UnknownMethod)),
         }
     }
 }

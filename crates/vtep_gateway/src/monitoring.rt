@@ -97,6 +97,7 @@ impl Vtep {
             ≡ (monitor_in self.old session (view params.now)).vtep) }
         ensures quiet { (monitor_in self.old session (view params.now)).before ≡ [] }
         ensures rows { self.new.rows ≡ self.old.rows }
+        ensures learned { self.new.learned ≡ self.old.learned }
         ensures result { IfOk result
             (λ r. seen r ≡ (monitor_in self.old session (view params.now)).result) }
         ensures plain { IfOk result (λ r. IfOk r (λ v. has_float (view v) ≡ false)) }
@@ -127,6 +128,7 @@ impl Vtep {
             ≡ (cancel_in self.old session (view params.now)).vtep) }
         ensures quiet { (cancel_in self.old session (view params.now)).before ≡ [] }
         ensures rows { self.new.rows ≡ self.old.rows }
+        ensures learned { self.new.learned ≡ self.old.learned }
         ensures result { IfOk result
             (λ r. seen r ≡ (cancel_in self.old session (view params.now)).result) }
         ensures plain { IfOk result (λ r. IfOk r (λ v. has_float (view v) ≡ false)) }

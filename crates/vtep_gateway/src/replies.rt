@@ -8,12 +8,12 @@ ghost use Rattle.rpc_framing.specs.Said.{said};
 ghost use Rattle.rpc_framing.specs.Written.{message_json};
 ghost use Rattle.rpc_framing.specs.Pieces.{come};
 ghost use Rattle.vtep_gateway.specs.Methods.{seen};
-ghost use Rattle.vtep_gateway.specs.Settled.{IsSettled};
+ghost use Rattle.vtep_gateway.specs.Good.{IsGood};
 ghost use Rattle.vtep_gateway.specs.Ready.{fib_of};
 ghost use Rattle.vtep_gateway.specs.Sessions.{response, outgoing, take, take_all};
 
 use crate::Outgoing;
-use crate::methods::{Called, method_of};
+use crate::methods::method_of;
 use crate::vtep::Vtep;
 use forward_program::Fib;
 use rpc_framing::{Framer, Framing, Message, NextFault, print};
@@ -84,11 +84,11 @@ impl Vtep {
         steps: &mut Steps<L>,
         sends: &mut List<Outgoing>,
     ) -> Result<(), OutOfMemory>
-        requires settled { IsSettled self.old.rows }
-        requires fib { fib.old ≡ fib_of self.old.rows }
+        requires good { IsGood self.old.rows self.old.learned }
+        requires fib { fib.old ≡ fib_of self.old.rows self.old.learned }
         requires plain { has_float (message_json (said message)) ≡ false }
-        ensures settled { OnOk result (IsSettled self.new.rows) }
-        ensures fib { OnOk result (fib.new ≡ fib_of self.new.rows) }
+        ensures good { OnOk result (IsGood self.new.rows self.new.learned) }
+        ensures fib { OnOk result (fib.new ≡ fib_of self.new.rows self.new.learned) }
         ensures left { OnOk result (self.new ≡ (take self.old session (said message)).vtep) }
         ensures sends { OnOk result (sends.new ≡ sends.old
             ++ (take self.old session (said message)).sends) }
@@ -97,8 +97,7 @@ impl Vtep {
             return Ok(());
         };
         let method = method_of(method.as_str());
-        let Called { outcome, change } = self.called(session, method, params, sends)?;
-        self.follow(&change, fib, steps)?;
+        let outcome = self.called(session, method, params, fib, steps, sends)?;
         sends.push(reply(self.alloc, session, outcome, id)?)
     }
 
@@ -112,10 +111,10 @@ impl Vtep {
         steps: &mut Steps<L>,
         sends: &mut List<Outgoing>,
     ) -> Result<Option<Framing>, OutOfMemory>
-        requires settled { IsSettled self.old.rows }
-        requires fib { fib.old ≡ fib_of self.old.rows }
-        ensures settled { OnOk result (IsSettled self.new.rows) }
-        ensures fib { OnOk result (fib.new ≡ fib_of self.new.rows) }
+        requires good { IsGood self.old.rows self.old.learned }
+        requires fib { fib.old ≡ fib_of self.old.rows self.old.learned }
+        ensures good { OnOk result (IsGood self.new.rows self.new.learned) }
+        ensures fib { OnOk result (fib.new ≡ fib_of self.new.rows self.new.learned) }
         ensures left { IfOk result (λ _. self.new
             ≡ (take_all self.old session (come framer.old).messages).vtep) }
         ensures sends { IfOk result (λ _. sends.new ≡ sends.old

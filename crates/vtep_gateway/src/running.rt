@@ -1,26 +1,30 @@
 //! What a gateway does with events, while it is not stopped.
 
-ghost use Rattle.std.specs.Prelude.{◌≡◌, ◌++◌, [], IfOk, OnOk, OnErr};
+ghost use Rattle.std.specs.Prelude.{◌≡◌, ◌++◌, IfOk, OnOk, OnErr};
 ghost use Rattle.forward_program.specs.Joins.{facts_of};
 ghost use Rattle.forward_program.specs.Shown.{shown};
 ghost use Rattle.vtep_gateway.specs.Gateway.{new_gateway, nothing};
 ghost use Rattle.vtep_gateway.specs.Sessions.{on_bytes};
 ghost use Rattle.vtep_gateway.specs.Ready.{IsReady};
-ghost use Rattle.vtep_gateway.specs.Frames.{on_frame, on_underlay};
+ghost use Rattle.vxlan_frames.specs.Packets.{IsInner};
+ghost use Rattle.vtep_gateway.specs.Learning.{most_learnt, aged};
+ghost use Rattle.vtep_gateway.specs.Frames.{ways, entered, on_frame, on_underlay};
 ghost use Rattle.vtep_gateway.specs.Show.{show_text};
-ghost use Rattle.vtep_gateway.specs.Moves.{on_hangup, on_port, on_unport, step};
+ghost use Rattle.vtep_gateway.specs.Moves.{on_hangup, settled, on_port, on_unport, step};
 
-use crate::frames::{take_frame, take_packet};
+use crate::frames::{forward, take_packet};
+use crate::learning::MOST_LEARNT;
 use crate::monitors::Monitors;
 use crate::ports::{PortFault, port_named};
 use crate::show::show;
 use crate::streams::Streams;
 use crate::vtep::Vtep;
-use crate::{Answer, Event, EventRefused};
-use forward_program::{Fib, Hops};
+use crate::{Answer, Event, EventRefused, Reason};
+use forward_program::{Fib, Hops, Origin};
+use mac_learning::Learned;
 use std::alloc::Global;
 use std::marker::Model;
-use vtep_base::{Bytes, Ipv4, Ledger, List, Name, OutOfMemory, Steps};
+use vtep_base::{Bytes, Inner, Ipv4, Ledger, List, Name, OutOfMemory, Steps, Vlan};
 use vtep_rows::{Database, Rows};
 
 /// The state of a gateway. After an `Err` nothing is claimed of it.
@@ -63,6 +67,8 @@ impl<L: Ledger> Running<L> {
                 alloc,
                 name,
                 database,
+                learned: Learned::new(alloc, MOST_LEARNT),
+                clock: 0,
                 monitors: Monitors::new(alloc),
             },
             streams: Streams::new(alloc),
@@ -83,6 +89,13 @@ impl<L: Ledger> Running<L> {
         self.vtep.rows()
     }
 
+    pub(crate) fn learned(&self) -> &Learned
+        ensures entries { result.now.entries ≡ self.now.state.vtep.learned }
+        ensures limit { result.now.limit ≡ most_learnt }
+    {
+        &self.vtep.learned
+    }
+
     pub(crate) fn fib(&self) -> &Fib<L>
         ensures { result.now ≡ self.now.fib }
     {
@@ -93,7 +106,7 @@ impl<L: Ledger> Running<L> {
     pub(crate) fn show(&self, out: &mut Bytes) -> Result<(), OutOfMemory>
         requires { IsReady self.now }
         ensures ok { OnOk result (out.new ≡ out.old ++ show_text self.now.state.vtep.name
-            self.now.state.vtep.rows (facts_of (shown self.now.state.vtep.rows []))) }
+            self.now.state.vtep.rows (facts_of (shown self.now.state.vtep.rows self.now.state.vtep.learned))) }
         ensures err { OnErr result (out.new ≡ out.old) }
     {
         let mut text = Bytes::new(self.alloc);
@@ -104,7 +117,7 @@ impl<L: Ledger> Running<L> {
     fn write_facts(&self, out: &mut Bytes) -> Result<(), OutOfMemory>
         requires { IsReady self.now }
         ensures { OnOk result (out.new ≡ out.old ++ show_text self.now.state.vtep.name
-            self.now.state.vtep.rows (facts_of (shown self.now.state.vtep.rows []))) }
+            self.now.state.vtep.rows (facts_of (shown self.now.state.vtep.rows self.now.state.vtep.learned))) }
     {
         show(self.alloc, self.name(), self.rows(), self.fib(), out)
     }
@@ -169,17 +182,51 @@ impl<L: Ledger> Running<L> {
         }
     }
 
-    fn on_frame(&mut self, port: &Name, bytes: &Bytes) -> Result<Answer<L>, OutOfMemory>
+    /// A frame of a VLAN enters at a port that is there.
+    fn enter(
+        &mut self,
+        port: &Name,
+        vlan: Vlan,
+        inner: &Inner<'_>,
+        steps: &mut Steps<L>,
+    ) -> Result<Answer<L>, OutOfMemory>
+        requires ready { IsReady self.old }
+        requires frame { IsInner inner.now }
+        ensures ok { IfOk result (λ a. entered self.old.state port.now vlan inner.now
+            ((ways self.old.state.vtep).bound (port.now, vlan))
+            ≡ record { gateway = self.new.state; answer = a }) }
+        ensures ready { OnOk result (IsReady self.new) }
+    {
+        let Some(switch) = self.fib.switch_at(*port, vlan) else {
+            return Ok(Answer::dropped(self.alloc, Reason::Unbound));
+        };
+        let mut sends = List::new(self.alloc);
+        let full = self.vtep.learn(switch, port, vlan, inner, &mut self.fib, steps, &mut sends)?;
+        let origin = Origin::Port { port: *port, vlan };
+        let mut answer = forward(&self.vtep, &self.fib, &mut self.hops, origin, inner)?;
+        answer.sends = sends;
+        answer.full = full;
+        Ok(answer)
+    }
+
+    fn on_frame(
+        &mut self,
+        port: &Name,
+        bytes: &Bytes,
+        steps: &mut Steps<L>,
+    ) -> Result<Answer<L>, OutOfMemory>
         requires { IsReady self.old }
         ensures ok { IfOk result (λ a. on_frame self.old.state port.now bytes.now
             ≡ record { gateway = self.new.state; answer = a }) }
         ensures ready { OnOk result (IsReady self.new) }
     {
-        let rows = self.vtep.rows();
-        if port_named(self.alloc, rows, port)?.is_none() {
+        if port_named(self.alloc, self.vtep.rows(), port)?.is_none() {
             return Ok(Answer::refused(self.alloc, EventRefused::NoPort));
         }
-        take_frame(self.alloc, rows, &self.fib, &mut self.hops, port, bytes)
+        match ether_frames::read(bytes.as_slice()) {
+            Ok(frame) => self.enter(port, frame.vlan, &frame.inner, steps),
+            Err(fault) => Ok(Answer::dropped(self.alloc, Reason::Frame(fault))),
+        }
     }
 
     fn on_underlay(&mut self, bytes: &Bytes) -> Result<Answer<L>, OutOfMemory>
@@ -188,13 +235,17 @@ impl<L: Ledger> Running<L> {
             ≡ record { gateway = self.new.state; answer = a }) }
         ensures ready { OnOk result (IsReady self.new) }
     {
-        take_packet(
-            self.alloc,
-            self.vtep.rows(),
-            &self.fib,
-            &mut self.hops,
-            bytes,
-        )
+        take_packet(&self.vtep, &self.fib, &mut self.hops, bytes)
+    }
+
+    fn on_age(&mut self, seconds: u32, steps: &mut Steps<L>) -> Result<Answer<L>, OutOfMemory>
+        requires { IsReady self.old }
+        ensures ok { IfOk result (λ a. settled self.old.state (aged self.old.state.vtep seconds)
+            ≡ record { gateway = self.new.state; answer = a }) }
+        ensures ready { OnOk result (IsReady self.new) }
+    {
+        let sends = self.vtep.age(seconds, &mut self.fib, steps)?;
+        Ok(Answer::said(self.alloc, sends, None))
     }
 
     /// Does what an event asks for, and gives what goes out.
@@ -213,8 +264,9 @@ impl<L: Ledger> Running<L> {
             Event::Hangup { session } => Ok(self.on_hangup(*session)),
             Event::Port { name } => self.on_port(name, steps),
             Event::Unport { name } => self.on_unport(name, steps),
-            Event::Frame { port, bytes } => self.on_frame(port, bytes),
+            Event::Frame { port, bytes } => self.on_frame(port, bytes, steps),
             Event::Underlay { bytes } => self.on_underlay(bytes),
+            Event::Age { seconds } => self.on_age(*seconds, steps),
         }
     }
 }

@@ -1,14 +1,15 @@
 //! The text of `show`: what a gateway's forwarding state says, in lines.
 
-ghost use Rattle.std.specs.Prelude.{◌≡◌, ◌++◌, [], false, Some, string_bytes, unwrap_or, filter_map, flat_map, IfOk, OnOk};
+ghost use Rattle.std.specs.Prelude.{◌≡◌, ◌++◌, [], List as Listed, false, Some, string_bytes, unwrap_or, filter_map, flat_map, IfOk, OnOk};
 ghost use Rattle.vtep_base.specs.Maps as maps;
 ghost use Rattle.vtep_rows.specs.Row.{first, text_in, text_at};
-ghost use Rattle.vtep_rows.specs.Rows.{Rows as AllRows, IsRows};
-ghost use Rattle.vtep_rows.specs.Sound.{Sound};
+ghost use Rattle.vtep_rows.specs.Rows.{Rows as AllRows};
+ghost use Rattle.mac_learning.specs.declared.Learnt.{Learnt as Entry};
 ghost use Rattle.forward_program.specs.Built.{IsIn};
 ghost use Rattle.forward_program.specs.Shown.{shown};
 ghost use Rattle.forward_program.specs.Joins.{facts_of};
 ghost use Rattle.forward_program.specs.declared.facts.Fact.{Fact as SomeFact};
+ghost use Rattle.vtep_gateway.specs.Good.{IsGood};
 ghost use Rattle.vtep_gateway.specs.Show.{json_text, row_name, switch_name, acl_name, acl_text, place_text, group_text, ip_text, key_of, line_of, lines_of, heading, show_text, line_cmp};
 
 use crate::frames::own_address;
@@ -309,12 +310,13 @@ pub(crate) fn show<L: Ledger>(
     put_lines(&lines, out)
 }
 
-/// A law: of sound rows no two facts of the forwarding state have one place in the text, and the line of each fact stands there.
+/// A law: of sound rows and learnt addresses that are bound no two facts of the forwarding state have one place in the text, and the
+/// line of each fact stands there.
 pub fn each_fact_has_a_line()
-    ensures own { (r : AllRows) → IsRows r → Sound r → (f g : SomeFact)
-        → IsIn f (facts_of (shown r [])) → IsIn g (facts_of (shown r [])) → key_of r f ≡ key_of r g
+    ensures own { (r : AllRows) (l : Listed Entry) → IsGood r l → (f g : SomeFact)
+        → IsIn f (facts_of (shown r l)) → IsIn g (facts_of (shown r l)) → key_of r f ≡ key_of r g
         → f ≡ g }
-    ensures there { (r : AllRows) → IsRows r → Sound r → (f : SomeFact)
-        → IsIn f (facts_of (shown r [])) → maps.get (lines_of r (facts_of (shown r []))) (key_of r f)
+    ensures there { (r : AllRows) (l : Listed Entry) → IsGood r l → (f : SomeFact)
+        → IsIn f (facts_of (shown r l)) → maps.get (lines_of r (facts_of (shown r l))) (key_of r f)
         ≡ Some (line_of r f) }
 {}

@@ -1,23 +1,30 @@
-//! The tunnel end point of a gateway: what its sessions read and write.
+//! The tunnel end point of a gateway: what its sessions read and write, and what it learns.
 
-ghost use Rattle.std.specs.Prelude.{◌≡◌, true, false, is_some, None, Some, IfOk, IfErr, IfSome, OnOk};
+ghost use Rattle.std.specs.Prelude.{◌≡◌, ◌++◌, [], ℕ, List as Listed, true, false, is_some, None, Some, IfOk, IfErr, IfSome, OnOk};
 ghost use Rattle.vtep_base.specs.Maps as maps;
 ghost use Rattle.vtep_base.specs.Texts.{is_name};
 ghost use Rattle.vtep_base.specs.Answers.{OrMemory};
-ghost use Rattle.vtep_rows.specs.Rows.{Rows as AllRows, collected};
+ghost use Rattle.vtep_rows.specs.Rows.{Rows as AllRows};
+ghost use Rattle.vtep_rows.specs.Changes.{changes};
+ghost use Rattle.mac_learning.specs.declared.Learnt.{Learnt as Entry};
+ghost use Rattle.forward_program.specs.Follows.{AreMoved};
+ghost use Rattle.local_tables.specs.Following.{without_all};
 ghost use Rattle.vtep_gateway.specs.declared.EventRefused.TheVariants.{NoPort};
+ghost use Rattle.vtep_gateway.specs.Commit.{changed};
 ghost use Rattle.vtep_gateway.specs.CommitFaults.{refusal_of};
-ghost use Rattle.vtep_gateway.specs.Vtep.{with_rows, with_monitors};
+ghost use Rattle.vtep_gateway.specs.Vtep.{with_monitors};
 ghost use Rattle.vtep_gateway.specs.Monitors.{told_all};
 ghost use Rattle.vtep_gateway.specs.Ports.{port_named, port_refusal, with_port, without_port};
-ghost use Rattle.vtep_gateway.specs.Settled.{IsSettled};
-ghost use Rattle.vtep_gateway.specs.Ready.{Leads, fib_of};
+ghost use Rattle.vtep_gateway.specs.Good.{IsGood};
+ghost use Rattle.vtep_gateway.specs.Ready.{fib_of};
 
 use crate::Outgoing;
-use crate::commit::{commit_unchecked, follow};
+use crate::commit::{Kept, commit_unchecked};
+use crate::frames::own_address;
 use crate::monitors::Monitors;
 use crate::ports::{PortFault, add_port, remove_port};
 use forward_program::Fib;
+use mac_learning::{Learned, Learnt};
 use std::alloc::Global;
 use std::marker::Model;
 use vtep_base::{Ledger, List, Name, OutOfMemory, Steps};
@@ -29,18 +36,31 @@ pub(crate) struct Vtep {
     pub(crate) alloc: Global,
     pub(crate) name: Name,
     pub(crate) database: Database,
+    pub(crate) learned: Learned,
+    /// In seconds.
+    pub(crate) clock: u64,
     pub(crate) monitors: Monitors,
 }
 
 impl Model for Vtep {
+    ghost use Rattle.std.specs.Prelude.{◌≡◌};
     ghost use Rattle.vtep_gateway.specs.Vtep as vtep;
     ghost use Rattle.vtep_gateway.specs.Vtep.{vtep_code};
+    ghost use Rattle.vtep_gateway.specs.Learning.{most_learnt};
 
     ghost Value = { vtep.Vtep };
 
     ghost coded = { vtep_code };
 
-    ghost view = { λ v. record { name = v.name; rows = v.database.current; monitors = v.monitors } };
+    ghost view = { λ v. record {
+      name = v.name;
+      rows = v.database.current;
+      learned = v.learned.entries;
+      clock = v.clock;
+      monitors = v.monitors;
+    } };
+
+    ghost invariant = { λ v. v.learned.limit ≡ most_learnt };
 }
 
 impl Vtep {
@@ -58,22 +78,62 @@ impl Vtep {
         self.monitors.close(session);
     }
 
-    /// The forwarding state follows a change that led to the rows, where there is one.
-    pub(crate) fn follow<L: Ledger>(
+    /// Takes entries out of the learnt list. Takes no memory.
+    fn evict(&mut self, gone: &[Learnt])
+        ensures { self.new
+            ≡ record self.old { learned = without_all gone.now self.old.learned } }
+    {
+        'gone: for entry in gone {
+            self.learned.evict(entry.switch, entry.mac);
+        }
+    }
+
+    /// The monitors are told of a change that led to the rows, and the forwarding state follows it and the addresses that came, went
+    /// or moved.
+    pub(crate) fn publish<L: Ledger>(
         &self,
-        change: &Option<Change>,
+        change: &Change,
+        moved: &[Learnt],
         fib: &mut Fib<L>,
         steps: &mut Steps<L>,
+        sends: &mut List<Outgoing>,
     ) -> Result<(), OutOfMemory>
-        requires settled { IsSettled self.now.rows }
+        requires good { IsGood self.now.rows self.now.learned }
         requires going { fib.old.broken ≡ false }
-        ensures { (before : AllRows) → IsSettled before → Leads change.now before self.now.rows
-            → fib.old ≡ fib_of before → OnOk result (fib.new ≡ fib_of self.now.rows) }
+        ensures told { (before : AllRows) → change.now ≡ changes before self.now.rows
+            → OnOk result (sends.new
+            ≡ sends.old ++ told_all before self.now.rows self.now.monitors) }
+        ensures fib { (before : AllRows) (known : Listed Entry) → IsGood before known
+            → change.now ≡ changes before self.now.rows → AreMoved known self.now.learned moved.now
+            → fib.old ≡ fib_of before known
+            → OnOk result (fib.new ≡ fib_of self.now.rows self.now.learned) }
     {
-        match change {
-            Some(change) => follow(self.alloc, self.rows(), change, fib, steps),
-            None => Ok(()),
-        }
+        self.monitors.tell(self.alloc, change, sends)?;
+        fib.apply(self.alloc, self.rows(), &self.learned, change, moved, steps)
+    }
+
+    /// A commit is concluded: the entries that have to go leave the learnt list, the monitors are told, and the forwarding state
+    /// follows.
+    pub(crate) fn conclude<L: Ledger>(
+        &mut self,
+        kept: Kept,
+        fib: &mut Fib<L>,
+        steps: &mut Steps<L>,
+        sends: &mut List<Outgoing>,
+    ) -> Result<(), OutOfMemory>
+        requires good { IsGood self.old.rows (without_all kept.gone self.old.learned) }
+        requires going { fib.old.broken ≡ false }
+        ensures left { OnOk result (self.new
+            ≡ record self.old { learned = without_all kept.gone self.old.learned }) }
+        ensures told { (before : AllRows) → kept.change ≡ changes before self.old.rows
+            → OnOk result (sends.new
+            ≡ sends.old ++ told_all before self.old.rows self.old.monitors) }
+        ensures fib { (before : AllRows) → IsGood before self.old.learned
+            → kept.change ≡ changes before self.old.rows → fib.old ≡ fib_of before self.old.learned
+            → OnOk result (fib.new ≡ fib_of self.new.rows self.new.learned) }
+    {
+        self.evict(kept.gone.as_slice());
+        self.publish(&kept.change, kept.gone.as_slice(), fib, steps, sends)
     }
 
     /// Adds a port, and gives what the monitors are told. The forwarding state follows.
@@ -83,23 +143,26 @@ impl Vtep {
         fib: &mut Fib<L>,
         steps: &mut Steps<L>,
     ) -> Result<List<Outgoing>, PortFault>
-        requires settled { IsSettled self.old.rows }
-        requires fib { fib.old ≡ fib_of self.old.rows }
+        requires good { IsGood self.old.rows self.old.learned }
+        requires fib { fib.old ≡ fib_of self.old.rows self.old.learned }
         ensures form { is_name name.now ≡ true }
         ensures free { OnOk result (port_refusal self.old.rows name.now ≡ None) }
-        ensures left { OnOk result (self.new
-            ≡ with_rows self.old (with_port self.old.rows name.now)) }
-        ensures told { IfOk result (λ sends. sends
-            ≡ told_all self.old.rows (with_port self.old.rows name.now) self.old.monitors) }
-        ensures settled { OnOk result (IsSettled self.new.rows) }
-        ensures fib { OnOk result (fib.new ≡ fib_of self.new.rows) }
+        ensures left { IfOk result
+            (λ sends. changed self.old (with_port self.old.rows name.now) self.old.learned
+            ≡ record { vtep = self.new; sends = sends }) }
+        ensures good { OnOk result (IsGood self.new.rows self.new.learned) }
+        ensures fib { OnOk result (fib.new ≡ fib_of self.new.rows self.new.learned) }
         ensures refused { IfErr result (λ fault. OrMemory (refusal_of fault)
             (λ why. (port_refusal self.old.rows name.now ≡ Some why) × (self.new ≡ self.old)
             × (fib.new ≡ fib.old))) }
     {
+        let own = own_address(self.rows());
         self.database.begin();
         add_port(self.alloc, &mut self.database, name)?;
-        Ok(commit_ports(self.alloc, &mut self.database, &self.monitors, fib, steps)?)
+        let kept = commit_unchecked(self.alloc, &mut self.database, own, &self.learned)?;
+        let mut sends = List::new(self.alloc);
+        self.conclude(kept, fib, steps, &mut sends)?;
+        Ok(sends)
     }
 
     /// Takes a port away, and gives what the monitors are told. The forwarding state follows.
@@ -109,44 +172,24 @@ impl Vtep {
         fib: &mut Fib<L>,
         steps: &mut Steps<L>,
     ) -> Result<List<Outgoing>, PortFault>
-        requires settled { IsSettled self.old.rows }
-        requires fib { fib.old ≡ fib_of self.old.rows }
+        requires good { IsGood self.old.rows self.old.learned }
+        requires fib { fib.old ≡ fib_of self.old.rows self.old.learned }
         ensures found { OnOk result (is_some (port_named self.old.rows name.now) ≡ true) }
-        ensures left { OnOk result (IfSome (port_named self.old.rows name.now)
-            (λ id. self.new ≡ with_rows self.old (collected (without_port self.old.rows id)))) }
-        ensures told { IfOk result (λ sends. IfSome (port_named self.old.rows name.now)
-            (λ id. sends ≡ told_all self.old.rows (collected (without_port self.old.rows id)) self.old.monitors)) }
-        ensures settled { OnOk result (IsSettled self.new.rows) }
-        ensures fib { OnOk result (fib.new ≡ fib_of self.new.rows) }
+        ensures left { IfOk result (λ sends. IfSome (port_named self.old.rows name.now)
+            (λ id. changed self.old (without_port self.old.rows id) self.old.learned
+            ≡ record { vtep = self.new; sends = sends })) }
+        ensures good { OnOk result (IsGood self.new.rows self.new.learned) }
+        ensures fib { OnOk result (fib.new ≡ fib_of self.new.rows self.new.learned) }
         ensures refused { IfErr result (λ fault. OrMemory (refusal_of fault)
             (λ why. (why ≡ NoPort) × (port_named self.old.rows name.now ≡ None)
             × (self.new ≡ self.old) × (fib.new ≡ fib.old))) }
     {
+        let own = own_address(self.rows());
         self.database.begin();
         remove_port(self.alloc, &mut self.database, name)?;
-        Ok(commit_ports(self.alloc, &mut self.database, &self.monitors, fib, steps)?)
+        let kept = commit_unchecked(self.alloc, &mut self.database, own, &self.learned)?;
+        let mut sends = List::new(self.alloc);
+        self.conclude(kept, fib, steps, &mut sends)?;
+        Ok(sends)
     }
-}
-
-/// Commits a change of the ports, which breaks no rule, and gives what the monitors are told. The forwarding state follows.
-fn commit_ports<L: Ledger>(
-    alloc: Global,
-    database: &mut Database,
-    monitors: &Monitors,
-    fib: &mut Fib<L>,
-    steps: &mut Steps<L>,
-) -> Result<List<Outgoing>, OutOfMemory>
-    requires before { IsSettled database.old.committed }
-    requires after { IsSettled (collected database.old.current) }
-    requires fib { fib.old ≡ fib_of database.old.committed }
-    ensures rows { OnOk result (database.new.current ≡ collected database.old.current) }
-    ensures told { IfOk result (λ sends. sends
-        ≡ told_all database.old.committed database.new.current monitors.now) }
-    ensures fib { OnOk result (fib.new ≡ fib_of database.new.current) }
-{
-    let change = commit_unchecked(alloc, database)?;
-    let mut sends = List::new(alloc);
-    monitors.tell(alloc, &change, &mut sends)?;
-    follow(alloc, database.rows(), &change, fib, steps)?;
-    Ok(sends)
 }

@@ -5,4 +5,4 @@ use Rattle.vtep_gateway.proofs.gateway.Gateway.fib.Goals as goal
 
 pub returns : goal.returns
 returns g c = λ going.
-    c.fib.ensures ∙ (c.self.invariant (ap (λ (h : Held). h.stopped) c.self.view_is ∙ going)).fib ∙ ap (λ (h : Held). fib_of h.state.vtep.rows) c.self.view_is
+    c.fib.ensures ∙ (c.self.invariant (ap (λ (h : Held). h.stopped) c.self.view_is ∙ going)).fib ∙ ap (λ (h : Held). fib_of h.state.vtep.rows h.state.vtep.learned) c.self.view_is

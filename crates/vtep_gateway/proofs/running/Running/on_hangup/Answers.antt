@@ -1,6 +1,6 @@
 use Rattle.std.proofs.Common.{sym, ap, subst, ◌∙◌}
 use Rattle.vtep_gateway.specs.Vtep.{Vtep}
-use Rattle.vtep_gateway.specs.Settled.{IsSettled}
+use Rattle.vtep_gateway.specs.Good.{IsGood}
 use Rattle.vtep_gateway.specs.Ready.{IsReady, fib_of}
 use Rattle.vtep_gateway.specs.Gateway.{Running}
 use Rattle.vtep_gateway.specs.Moves.{on_hangup}
@@ -16,12 +16,12 @@ returns-then-not-close-clause-ok g c =
 pub returns-then-not-close-clause-ready : goal.returns-then-not-close-clause-ready
 returns-then-not-close-clause-ready g c =
     let ready = subst IsReady (sym c.self.view_is) c.requires in
-    record { settled = ready.settled; fib = ready.fib }
+    record { good = ready.good; fib = ready.fib }
 
 pub returns-clause-ready : goal.returns-clause-ready
 returns-clause-ready g c =
     let ready = subst IsReady (sym c.self.view_is) c.requires in
     record {
-      settled = subst (λ (v : Vtep). IsSettled v.rows) (sym c.close_monitors.ensures) ready.settled;
-      fib = ready.fib ∙ ap (λ (v : Vtep). fib_of v.rows) (sym c.close_monitors.ensures);
+      good = subst (λ (v : Vtep). IsGood v.rows v.learned) (sym c.close_monitors.ensures) ready.good;
+      fib = ready.fib ∙ ap (λ (v : Vtep). fib_of v.rows v.learned) (sym c.close_monitors.ensures);
     }

@@ -1,7 +1,7 @@
 use Rattle.std.proofs.Common.{refl, sym, ap, subst, ◌∙◌}
 use Rattle.vtep_gateway.specs.Gateway.{Running}
 use Rattle.vtep_gateway.specs.Vtep.{Vtep}
-use Rattle.vtep_gateway.specs.Settled.{IsSettled}
+use Rattle.vtep_gateway.specs.Good.{IsGood}
 use Rattle.vtep_gateway.specs.Ready.{IsReady, fib_of}
 use Rattle.vtep_gateway.specs.Ports.{port_named}
 use Rattle.vtep_gateway.specs.Moves.{on_unport}
@@ -18,7 +18,7 @@ returns-clause-ok g c =
     elim c.match-remove_port.branch [
       | in-Ok w ↦
           rw w.result-is (ap (λ (r : Running). on_unport r.state c.args.name.now) (sym c.self.view_is)
-          ∙ left_answer (record { vtep = c.self.inside.vtep; streams = c.self.inside.streams }) c.args.name.now c.remove_port.new.self w.in-Ok.sends w.said.result (port_named c.self.inside.vtep.rows c.args.name.now) refl (ready g c).settled w.in-Ok.ensures.found w.in-Ok.ensures.left w.in-Ok.ensures.told w.said.ensures)
+          ∙ left_answer (record { vtep = c.self.inside.vtep; streams = c.self.inside.streams }) c.args.name.now c.remove_port.new.self w.in-Ok.sends w.said.result (port_named c.self.inside.vtep.rows c.args.name.now) refl w.in-Ok.ensures.found w.in-Ok.ensures.left w.said.ensures)
       | in-Err-Refused w ↦
           let p = rw w.in-Err-Refused.field-0-is at w.in-Err-Refused.ensures.refused in
           rw w.result-is (ap (λ (r : Running). on_unport r.state c.args.name.now) (sym c.self.view_is)
@@ -32,12 +32,12 @@ remove_port-requires-clause-fib g c = (subst IsReady (sym c.self.view_is) c.requ
 pub returns-clause-ready : goal.returns-clause-ready
 returns-clause-ready g c =
     elim c.match-remove_port.branch [
-      | in-Ok w ↦ rw w.result-is (record { settled = w.in-Ok.ensures.settled; fib = w.in-Ok.ensures.fib })
+      | in-Ok w ↦ rw w.result-is (record { good = w.in-Ok.ensures.good; fib = w.in-Ok.ensures.fib })
       | in-Err-Refused w ↦
           let p = rw w.in-Err-Refused.field-0-is at w.in-Err-Refused.ensures.refused in
           rw w.result-is (record {
-            settled = subst (λ (v : Vtep). IsSettled v.rows) (sym p.2) (ready g c).settled;
-            fib = p.3 ∙ (ready g c).fib ∙ ap (λ (v : Vtep). fib_of v.rows) (sym p.2);
+            good = subst (λ (v : Vtep). IsGood v.rows v.learned) (sym p.2) (ready g c).good;
+            fib = p.3 ∙ (ready g c).fib ∙ ap (λ (v : Vtep). fib_of v.rows v.learned) (sym p.2);
           })
       | in-Err-OutOfMemory w ↦ rw w.result-is tt
     ]

@@ -1,49 +1,113 @@
-use Rattle.std.proofs.Common.{◌≡◌, rules, refl, sym, ap, subst, ◌∙◌}
-use Rattle.vtep_rows.specs.Rows.{collected}
-use Rattle.vtep_gateway.specs.Vtep.{Vtep, with_rows}
-use Rattle.vtep_gateway.specs.Ready.{fib_of}
+use Rattle.std.proofs.Common.{rules, ◌≡◌, ℕ, ◌++◌, true, Option, Some, None, is_some, IfErr, IfSome, Ok, refl, sym, ap, subst, ◌∙◌}
+use Rattle.vtep_rows.specs.Rows.{Rows}
+use Rattle.vtep_rows.specs.Changes.{changes}
+use Rattle.vtep_rows.specs.Database.{Versions}
+use Rattle.forward_program.specs.Readings.{own_ip}
+use Rattle.local_tables.specs.Followed.{Committed}
+use Rattle.local_tables.specs.Following.{without_all}
+use Rattle.vtep_gateway.specs.declared.ports.PortFault.TheVariants as port
+use Rattle.vtep_gateway.specs.Vtep.{Vtep}
 use Rattle.vtep_gateway.specs.Monitors.{told_all}
-use Rattle.vtep_gateway.specs.Ports.{with_port}
-use Rattle.vtep_gateway.specs.Settled.{IsSettled}
-use Rattle.vtep_gateway.proofs.Settling.{name_short}
-use Rattle.vtep_gateway.proofs.PortJoins.{join_settled}
-use Rattle.vtep_gateway.proofs.PortAnswers.{joined_rows}
-use Rattle.vtep_gateway.proofs.vtep.Vtep.add_port.Given as given
-use Rattle.vtep_gateway.proofs.vtep.Vtep.add_port.Goals as goal
+use Rattle.vtep_gateway.specs.Commit.{Taken, changed}
+use Rattle.vtep_gateway.specs.Ports.{port_refusal, with_port}
+use Rattle.vtep_gateway.specs.Good.{IsGood}
+use Rattle.vtep_gateway.specs.Ready.{fib_of}
 use Rattle.vtep_gateway.specs.contracts.vtep.Vtep.{the_view}
+use Rattle.vtep_gateway.proofs.Kept.{changed_is}
+use Rattle.vtep_gateway.proofs.PortCommits.{IsKept, join_kept, changed_by, kept_by, told_by, good_by, memory_err}
+use Rattle.vtep_gateway.proofs.vtep.Vtep.add_port.Goals as goal
 
-before : (g : given.Over) (c : goal.In_ok-commit_ports g) → IsSettled c.begin.new.self.current
-before g c = search rules
+pub commit_unchecked-requires-clause-changed : goal.commit_unchecked-requires-clause-changed
+commit_unchecked-requires-clause-changed g c =
+    let v : Vtep = the_view c.self.inside in
+    let good : IsGood v.rows v.learned = subst (λ (w : Vtep). IsGood w.rows w.learned) (sym c.self.view_is) c.requires.good in
+    let own : c.own_address-own.result ≡ own_ip v.rows = search rules in
+    let name = c.args.name.now in
+    let free : port_refusal v.rows name ≡ None = sym (ap (λ (b : Versions). port_refusal b.current name) c.begin.ensures) ∙ c.in_ok-add_port.ensures.free in
+    let r : Rows = with_port v.rows name in
+    let d : Versions = c.add_port.new.database in
+    let same : d ≡ record { committed = v.rows; current = r } = c.in_ok-add_port.ensures.added ∙ ap (λ (b : Versions). let w : Versions = record b { current = with_port b.current name } in w) c.begin.ensures in
+    let is : IsKept v r = join_kept v name good c.in_ok-add_port.ensures.form free in
+    changed_by v r is c.own_address-own.result d own same
 
-joined : (g : given.Over) (c : goal.In_ok-commit_ports g) → c.commit_ports.new.database.current ≡ with_port c.begin.new.self.current c.args.name.now
-joined g c =
-    joined_rows c.begin.new.self c.add_port.new.database c.commit_ports.new.database.current c.args.name.now (before g c) c.in_ok-add_port.ensures.form c.in_ok-add_port.ensures.free c.in_ok-add_port.ensures.added
-    c.in_ok-commit_ports.ensures.rows
+pub commit_unchecked-requires-clause-kept : goal.commit_unchecked-requires-clause-kept
+commit_unchecked-requires-clause-kept g c =
+    let v : Vtep = the_view c.self.inside in
+    let good : IsGood v.rows v.learned = subst (λ (w : Vtep). IsGood w.rows w.learned) (sym c.self.view_is) c.requires.good in
+    let own : c.own_address-own.result ≡ own_ip v.rows = search rules in
+    let name = c.args.name.now in
+    let free : port_refusal v.rows name ≡ None = sym (ap (λ (b : Versions). port_refusal b.current name) c.begin.ensures) ∙ c.in_ok-add_port.ensures.free in
+    let r : Rows = with_port v.rows name in
+    let d : Versions = c.add_port.new.database in
+    let same : d ≡ record { committed = v.rows; current = r } = c.in_ok-add_port.ensures.added ∙ ap (λ (b : Versions). let w : Versions = record b { current = with_port b.current name } in w) c.begin.ensures in
+    let is : IsKept v r = join_kept v name good c.in_ok-add_port.ensures.form free in
+    kept_by v r is c.own_address-own.result d own same
 
-from_rows : (g : given.Over) (c : goal.In_ok-commit_ports g) → c.commit_ports.new.database.current ≡ with_port c.self.inside.database.current c.args.name.now
-from_rows g c = joined g c ∙ ap (λ v. with_port v.current c.args.name.now) c.begin.ensures
+pub conclude-requires-clause-good : goal.conclude-requires-clause-good
+conclude-requires-clause-good g c =
+    let v : Vtep = the_view c.self.inside in
+    let good : IsGood v.rows v.learned = subst (λ (w : Vtep). IsGood w.rows w.learned) (sym c.self.view_is) c.requires.good in
+    let own : c.own_address-own.result ≡ own_ip v.rows = search rules in
+    let name = c.args.name.now in
+    let free : port_refusal v.rows name ≡ None = sym (ap (λ (b : Versions). port_refusal b.current name) c.begin.ensures) ∙ c.in_ok-add_port.ensures.free in
+    let r : Rows = with_port v.rows name in
+    let d : Versions = c.add_port.new.database in
+    let same : d ≡ record { committed = v.rows; current = r } = c.in_ok-add_port.ensures.added ∙ ap (λ (b : Versions). let w : Versions = record b { current = with_port b.current name } in w) c.begin.ensures in
+    let is : IsKept v r = join_kept v name good c.in_ok-add_port.ensures.form free in
+    let k : Committed = record { rows = c.commit_unchecked.new.database.current; learned = without_all c.in_ok-kept.kept.gone v.learned } in
+    good_by v r is c.own_address-own.result d own same k c.in_ok-kept.ensures.kept
+
+pub returns-in_err-conclude-clause-refused : goal.returns-in_err-conclude-clause-refused
+returns-in_err-conclude-clause-refused g c =
+    let told : IfErr c.from_residual-in_err-conclude.result (λ fault. fault ≡ port.OutOfMemory) = search rules in
+    memory_err _ c.from_residual-in_err-conclude.result told
+
+pub returns-clause-good : goal.returns-clause-good
+returns-clause-good g c =
+    let v : Vtep = the_view c.self.inside in
+    let good : IsGood v.rows v.learned = subst (λ (w : Vtep). IsGood w.rows w.learned) (sym c.self.view_is) c.requires.good in
+    let own : c.own_address-own.result ≡ own_ip v.rows = search rules in
+    let name = c.args.name.now in
+    let free : port_refusal v.rows name ≡ None = sym (ap (λ (b : Versions). port_refusal b.current name) c.begin.ensures) ∙ c.in_ok-add_port.ensures.free in
+    let r : Rows = with_port v.rows name in
+    let d : Versions = c.add_port.new.database in
+    let same : d ≡ record { committed = v.rows; current = r } = c.in_ok-add_port.ensures.added ∙ ap (λ (b : Versions). let w : Versions = record b { current = with_port b.current name } in w) c.begin.ensures in
+    let is : IsKept v r = join_kept v name good c.in_ok-add_port.ensures.form free in
+    let k : Committed = record { rows = c.commit_unchecked.new.database.current; learned = without_all c.in_ok-kept.kept.gone v.learned } in
+    subst (λ (w : Vtep). IsGood w.rows w.learned) (sym c.in_ok-conclude.ensures.left) (good_by v r is c.own_address-own.result d own same k c.in_ok-kept.ensures.kept)
+
+pub returns-clause-fib : goal.returns-clause-fib
+returns-clause-fib g c =
+    let v : Vtep = the_view c.self.inside in
+    let good : IsGood v.rows v.learned = subst (λ (w : Vtep). IsGood w.rows w.learned) (sym c.self.view_is) c.requires.good in
+    let own : c.own_address-own.result ≡ own_ip v.rows = search rules in
+    let name = c.args.name.now in
+    let free : port_refusal v.rows name ≡ None = sym (ap (λ (b : Versions). port_refusal b.current name) c.begin.ensures) ∙ c.in_ok-add_port.ensures.free in
+    let r : Rows = with_port v.rows name in
+    let d : Versions = c.add_port.new.database in
+    let same : d ≡ record { committed = v.rows; current = r } = c.in_ok-add_port.ensures.added ∙ ap (λ (b : Versions). let w : Versions = record b { current = with_port b.current name } in w) c.begin.ensures in
+    let is : IsKept v r = join_kept v name good c.in_ok-add_port.ensures.form free in
+    let k : Committed = record { rows = c.commit_unchecked.new.database.current; learned = without_all c.in_ok-kept.kept.gone v.learned } in
+    let change : c.in_ok-kept.kept.change ≡ changes v.rows k.rows = c.in_ok-kept.ensures.change ∙ ap (λ (x : Versions). changes x.committed k.rows) same in
+    c.in_ok-conclude.ensures.fib v.rows good change (c.requires.fib ∙ ap (λ (w : Vtep). fib_of w.rows w.learned) (sym c.self.view_is))
 
 pub returns-clause-left : goal.returns-clause-left
 returns-clause-left g c =
-    ap (with_rows (the_view c.self.inside)) (from_rows g c) ∙ ap (λ v. with_rows v (with_port v.rows c.args.name.now)) c.self.view_is
-
-pub returns-clause-told : goal.returns-clause-told
-returns-clause-told g c =
-    c.in_ok-commit_ports.ensures.told
-    ∙ (λ i. told_all ((ap (λ v. v.committed) c.in_ok-add_port.ensures.added ∙ ap (λ v. v.committed) c.begin.ensures) i) (from_rows g c i) c.self.inside.monitors)
-    ∙ ap (λ v. told_all v.rows (with_port v.rows c.args.name.now) v.monitors) c.self.view_is
-
-pub returns-clause-settled : goal.returns-clause-settled
-returns-clause-settled g c =
-    subst IsSettled (sym (joined g c)) (join_settled c.begin.new.self.current c.args.name.now (before g c) (name_short c.args.name.now c.in_ok-add_port.ensures.form) c.in_ok-add_port.ensures.free)
-
-pub commit_ports-requires-clause-after : goal.commit_ports-requires-clause-after
-commit_ports-requires-clause-after g c =
-    let settled : IsSettled c.begin.new.self.current = search rules in
+    let v : Vtep = the_view c.self.inside in
+    let good : IsGood v.rows v.learned = subst (λ (w : Vtep). IsGood w.rows w.learned) (sym c.self.view_is) c.requires.good in
+    let own : c.own_address-own.result ≡ own_ip v.rows = search rules in
     let name = c.args.name.now in
-    subst IsSettled (sym (joined_rows c.begin.new.self c.add_port.new.database (collected c.add_port.new.database.current) name settled c.in_ok-add_port.ensures.form c.in_ok-add_port.ensures.free c.in_ok-add_port.ensures.added refl))
-    (join_settled c.begin.new.self.current name settled (name_short name c.in_ok-add_port.ensures.form) c.in_ok-add_port.ensures.free)
+    let free : port_refusal v.rows name ≡ None = sym (ap (λ (b : Versions). port_refusal b.current name) c.begin.ensures) ∙ c.in_ok-add_port.ensures.free in
+    let r : Rows = with_port v.rows name in
+    let d : Versions = c.add_port.new.database in
+    let same : d ≡ record { committed = v.rows; current = r } = c.in_ok-add_port.ensures.added ∙ ap (λ (b : Versions). let w : Versions = record b { current = with_port b.current name } in w) c.begin.ensures in
+    let is : IsKept v r = join_kept v name good c.in_ok-add_port.ensures.form free in
+    let k : Committed = record { rows = c.commit_unchecked.new.database.current; learned = without_all c.in_ok-kept.kept.gone v.learned } in
+    let change : c.in_ok-kept.kept.change ≡ changes v.rows k.rows = c.in_ok-kept.ensures.change ∙ ap (λ (x : Versions). changes x.committed k.rows) same in
+    ap (λ (w : Vtep). changed w (with_port w.rows name) w.learned) (sym c.self.view_is)
+    ∙ changed_is v r v.learned k c.conclude.new.self c.conclude.new.sends (told_by v r is c.own_address-own.result d own same k c.in_ok-kept.ensures.kept) c.in_ok-conclude.ensures.left
+    (c.in_ok-conclude.ensures.told v.rows change ∙ ap (λ sends. sends ++ told_all v.rows k.rows v.monitors) c.new-sends.ensures)
 
-pub commit_ports-requires-clause-fib : goal.commit_ports-requires-clause-fib
-commit_ports-requires-clause-fib g c =
-    c.requires.fib ∙ ap (λ (v : Vtep). fib_of v.rows) (sym c.self.view_is) ∙ ap (λ v. fib_of v.committed) (sym c.begin.ensures) ∙ ap (λ v. fib_of v.committed) (sym c.in_ok-add_port.ensures.added)
+pub returns-clause-free : goal.returns-clause-free
+returns-clause-free g c =
+    ap (λ (w : Vtep). port_refusal w.rows c.args.name.now) (sym c.self.view_is) ∙ sym (ap (λ (b : Versions). port_refusal b.current c.args.name.now) c.begin.ensures) ∙ c.in_ok-add_port.ensures.free
