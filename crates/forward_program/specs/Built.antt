@@ -5,7 +5,7 @@ use Rattle.std.specs.Option.{option_to_list}
 use Rattle.vtep_base.specs.Reading.{Bytes}
 use Rattle.vtep_base.specs.declared.Mode.{Mode}
 use Rattle.vtep_base.specs.declared.Mode.TheVariants.{Service}
-use Rattle.vtep_schema.specs.declared.Table.TheVariants.{PhysicalPort, LogicalSwitch, UcastMacsRemote, McastMacsRemote}
+use Rattle.vtep_schema.specs.declared.Table.TheVariants.{PhysicalPort, LogicalSwitch, UcastMacsRemote, McastMacsRemote, Acl}
 use Rattle.vtep_schema.specs.declared.Column.TheVariants.{LogicalTunnelKey}
 use Rattle.vtep_rows.specs.Row.{Contents, number_at}
 use Rattle.vtep_rows.specs.Rows.{Rows, rows_of, row_at}
@@ -19,6 +19,7 @@ use Rattle.forward_program.specs.declared.held.Lists.{Lists}
 use Rattle.forward_program.specs.declared.facts.Fact.{Fact}
 use Rattle.forward_program.specs.declared.facts.Fact.TheVariants as fact
 use Rattle.forward_program.specs.declared.facts.Place.TheVariants.{Here, There}
+use Rattle.forward_program.specs.Acls.{entries_at}
 use Rattle.forward_program.specs.Readings.{port_name, vlan_bindings, lists_at, mode_of, remote_of, group_of, own_ip, locator_address, other_address, set_locators}
 
 -- a member of a list
@@ -100,6 +101,18 @@ flood_to switch group (ip ∷ ips) = Some (fact.Flood switch group (ip ∷ ips))
 abbrev pub flood_fact : Rows → Group → Option Fact
 flood_fact r g = if_bound (is_bound r g.switch) (flood_to g.switch g.group (targets (mode_at r g.switch) (set_addresses r g.set)))
 
+-- the lists name the ACL
+abbrev pub names_acl : ℕ → Lists → Bool
+names_acl acl lists = list_any (λ id. id == acl) (acl_rows lists)
+
+-- some binding's lists name it
+abbrev pub is_listed : Rows → ℕ → Bool
+is_listed r acl = list_any (λ b. names_acl acl b.lists) (bindings r)
+
+-- an ACL that is listed
+abbrev pub acl_fact : Rows → ℕ × Contents → Option Fact
+acl_fact r e = if is_listed r e.0 then Some (fact.Acl e.0 (entries_at r e.1)) else None
+
 abbrev pub built : Rows → List Learnt → List Fact
 built r l =
     filter_map (vni_fact r) (rows_of LogicalSwitch r)
@@ -107,3 +120,4 @@ built r l =
     ++ map learnt_fact l
     ++ filter_map (λ e. option_and_then (unlearnt_fact r l) (remote_of e.1)) (rows_of UcastMacsRemote r)
     ++ filter_map (λ e. option_and_then (flood_fact r) (group_of e.1)) (rows_of McastMacsRemote r)
+    ++ filter_map (acl_fact r) (rows_of Acl r)

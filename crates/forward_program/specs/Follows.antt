@@ -1,23 +1,26 @@
 -- How the forwarding state follows a change of rows and of the learnt list: the places of what was in the rows are emptied, then
--- what is in them is put, and last the learnt list is asked for each address that the change may concern.
-use Rattle.std.specs.Prelude.{◌≡◌, ◌⊎◌, ℕ, Bool, true, not, ◌&&◌, List, [], ◌++◌, map, flat_map, Option, Some, None, option_map, option_and_then, if◌then◌else◌}
+-- what is in them is put, then the ACLs that the change touches, and last the learnt list is asked for each address that it may concern.
+use Rattle.std.specs.Prelude.{◌≡◌, ◌⊎◌, ℕ, Bool, true, not, ◌&&◌, List, [], ◌∷◌, ◌++◌, ◌||◌, ◌==◌, map, filter_map, flat_map, Option, Some, None, is_none, option_map, option_and_then, if◌then◌else◌}
+use Rattle.std.specs.List.{list_any}
 use Rattle.std.specs.Option.{option_to_list}
 use Rattle.vtep_base.specs.Maps as maps
 use Rattle.vtep_schema.specs.declared.Table.{Table}
-use Rattle.vtep_schema.specs.declared.Table.TheVariants.{PhysicalSwitch, UcastMacsRemote}
-use Rattle.vtep_schema.specs.declared.Column.TheVariants.{SwitchTunnelIps}
+use Rattle.vtep_schema.specs.declared.Table.TheVariants.{PhysicalSwitch, UcastMacsRemote, Acl, AclEntry}
+use Rattle.vtep_schema.specs.declared.Column.TheVariants.{SwitchTunnelIps, AclEntries}
 use Rattle.vtep_schema.specs.Tables.{same_table}
 use Rattle.vtep_rows.specs.declared.differences.RowChange.{RowChange}
-use Rattle.vtep_rows.specs.Row.{Contents, is_row}
+use Rattle.vtep_rows.specs.Row.{Contents, is_row, ids_at, put_all}
+use Rattle.vtep_rows.specs.Rows.{Rows, rows_of}
 use Rattle.mac_learning.specs.declared.Learnt.{Learnt}
 use Rattle.forward_program.specs.declared.spots.Spot.{Spot}
+use Rattle.forward_program.specs.declared.spots.Spot.TheVariants as spot
 use Rattle.forward_program.specs.Readings.{ip_at, remote_of}
 use Rattle.forward_program.specs.Same.{same_number}
 use Rattle.forward_program.specs.Built.{IsIn, bindings_of}
 use Rattle.forward_program.specs.Spots.{Entries}
 use Rattle.forward_program.specs.Joins.{Port}
 use Rattle.forward_program.specs.Hosts.{host, learnt_port, with_places}
-use Rattle.forward_program.specs.Shown.{Entry, binding_entries, row_entries}
+use Rattle.forward_program.specs.Shown.{Entry, binding_entries, row_entries, acl_entry}
 
 -- ---- the rows of a change
 
@@ -58,6 +61,43 @@ IsBound row k l = IsIn k (port_places row) × IsIn l (port_places row)
 -- of the places outside `staying` those of `gone` are empty, and the others are as they were
 abbrev pub IsCleared : Entries → Entries → List Spot → List Spot → Type 0
 IsCleared m n gone staying = (k : Spot) → (IsIn k staying → ⊥) → (IsIn k gone × (maps.get n k ≡ None)) ⊎ ((IsIn k gone → ⊥) × (maps.get n k ≡ maps.get m k))
+
+-- ---- the ACLs
+
+abbrev pub is_of_acl : RowChange → Bool
+is_of_acl c = same_table c.table Acl || same_table c.table AclEntry
+
+-- the change from its first row of an ACL or of an entry on
+abbrev pub acl_tail : List RowChange → List RowChange
+acl_tail [] = []
+acl_tail (c ∷ cs) = if is_of_acl c then c ∷ cs else acl_tail cs
+
+-- the place of an ACL that is no longer there
+abbrev pub gone_acl : RowChange → Option Spot
+gone_acl c = if same_table c.table Acl && is_none c.new then Some (spot.Acl c.id) else None
+
+abbrev pub without : Entries → List Spot → Entries
+without m [] = m
+without m (k ∷ ks) = without (maps.remove m k) ks
+
+-- the change has this row
+abbrev pub has_row : List RowChange → Table → ℕ → Bool
+has_row change t id = list_any (λ c. same_table c.table t && (c.id == id)) change
+
+-- it has a row of ACL, or the row of one of its entries
+abbrev pub is_touched : List RowChange → ℕ × Contents → Bool
+is_touched change e = has_row change Acl e.0 || list_any (has_row change AclEntry) (ids_at e.1 AclEntries)
+
+abbrev pub touched_entry : Rows → List RowChange → ℕ × Contents → List Entry
+touched_entry r change e = if is_touched change e then acl_entry r e ∷ [] else []
+
+-- what the ACLs hold that a change touches
+abbrev pub touched_entries : Rows → List RowChange → List Entry
+touched_entries r change = flat_map (touched_entry r change) (rows_of Acl r)
+
+-- what is no longer there goes, and what is touched is put anew
+abbrev pub acls_followed : Rows → List RowChange → Entries → Entries
+acls_followed r change m = put_all (without m (filter_map gone_acl change)) (touched_entries r change)
 
 -- ---- addresses that may be learnt or not learnt from now on
 

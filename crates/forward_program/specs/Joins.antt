@@ -1,10 +1,12 @@
 -- Facts as joins of a few entries of the forwarding state.
 use Rattle.std.specs.Prelude.{ℕ, Bool, true, false, ◌||◌, ◌==◌, if◌then◌else◌, List, [], ◌∷◌, filter_map, Option, Some, None, option_map, option_and_then}
+use Rattle.std.specs.List.{list_any}
 use Rattle.vtep_base.specs.Reading.{Bytes}
 use Rattle.vtep_base.specs.Maps as maps
 use Rattle.vtep_base.specs.declared.Mode.{Mode}
 use Rattle.vtep_base.specs.declared.Mode.TheVariants.{Service}
 use Rattle.locator_sets.specs.Locators.{ascending}
+use Rattle.acl_rules.specs.declared.entry.Entry as acl
 use Rattle.replication.specs.Targets.{targets}
 use Rattle.forward_program.specs.declared.spots.Spot.{Spot}
 use Rattle.forward_program.specs.declared.spots.Spot.TheVariants as spot
@@ -20,7 +22,7 @@ use Rattle.forward_program.specs.declared.facts.Place.TheVariants.{Here, There}
 use Rattle.forward_program.specs.declared.looks.Step.{Step}
 use Rattle.forward_program.specs.declared.looks.Step.TheVariants as step
 use Rattle.forward_program.specs.Places.{is_here}
-use Rattle.forward_program.specs.Built.{if_bound, acl_rows, flood_to}
+use Rattle.forward_program.specs.Built.{if_bound, acl_rows, names_acl, flood_to}
 use Rattle.forward_program.specs.Spots.{spot_cmp, Entries}
 
 -- a port and a VLAN
@@ -73,6 +75,14 @@ locators_in _ = []
 
 abbrev pub locators_at : Entries → ℕ → List ℕ
 locators_at m set = locators_in (maps.get m (spot.Set set))
+
+abbrev pub rules_in : Option Held → Option (List acl.Entry)
+rules_in (Some (held.Rules entries)) = Some entries
+rules_in _ = None
+
+-- the entries of an ACL, where it is there
+abbrev pub rules_at : Entries → ℕ → Option (List acl.Entry)
+rules_at m id = rules_in (maps.get m (spot.Acl id))
 
 abbrev pub addresses_at : Entries → ℕ → List ℕ
 addresses_at m set = ascending (filter_map (address_at m) (locators_at m set))
@@ -141,6 +151,16 @@ flood_in m switch _ = []
 abbrev pub flood_at : Entries → ℕ → Option ℕ → List ℕ
 flood_at m switch group = flood_in m switch (maps.get m (spot.Switch switch (part.Group group)))
 
+-- ---- the ACLs that bindings list
+
+-- the lists of a VLAN of a port name it
+abbrev pub lists_acl : ℕ → Spot × Held → Bool
+lists_acl acl (spot.Port port vlan, held.Bound switch lists) = names_acl acl lists
+lists_acl acl _ = false
+
+abbrev pub is_listed_at : Entries → ℕ → Bool
+is_listed_at m acl = list_any (lists_acl acl) m.list
+
 -- ---- the facts, by their places
 
 abbrev pub part_fact : Entries → ℕ → Part → Option Fact
@@ -152,6 +172,7 @@ abbrev pub fact_at : Entries → Spot → Option Fact
 fact_at m (spot.Port port vlan) = option_map (λ b. fact.Bind port vlan b.switch (acl_rows b.lists)) (bound_at m (port, vlan))
 fact_at m (spot.Switch switch p) = part_fact m switch p
 fact_at m (spot.Vni vni) = option_map (fact.Vni vni) (network_at m vni)
+fact_at m (spot.Acl id) = if is_listed_at m id then option_map (fact.Acl id) (rules_at m id) else None
 fact_at m _ = None
 
 -- all facts, in the order of their places

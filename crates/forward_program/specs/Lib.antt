@@ -1,4 +1,5 @@
 pub mod Readings
+pub mod Acls
 pub mod Places
 pub mod Built
 pub mod Spots

@@ -1,10 +1,10 @@
 -- The entries of the forwarding state of rows and learnt addresses: one for each row, two for each pair of vlan_bindings, and one
 -- for each address that is learnt or has a remote row.
-use Rattle.std.specs.Prelude.{ℕ, List, [], ◌∷◌, flat_map, Option, Some, None}
+use Rattle.std.specs.Prelude.{ℕ, List, [], ◌∷◌, map, flat_map, Option, Some, None}
 use Rattle.vtep_base.specs.Reading.{Bytes}
 use Rattle.vtep_base.specs.Maps as maps
 use Rattle.vtep_schema.specs.declared.Table.{Table}
-use Rattle.vtep_schema.specs.declared.Table.TheVariants.{PhysicalPort, LogicalSwitch, UcastMacsRemote, McastMacsRemote, PhysicalLocatorSet, PhysicalLocator}
+use Rattle.vtep_schema.specs.declared.Table.TheVariants.{PhysicalPort, LogicalSwitch, UcastMacsRemote, McastMacsRemote, PhysicalLocatorSet, PhysicalLocator, Acl}
 use Rattle.vtep_schema.specs.declared.Column.TheVariants.{LogicalTunnelKey, SetLocators, LocatorDstIp}
 use Rattle.vtep_rows.specs.Row.{Contents, number_at, ids_at, put_all}
 use Rattle.vtep_rows.specs.Rows.{Rows, rows_of}
@@ -17,6 +17,7 @@ use Rattle.forward_program.specs.declared.readings.Group.{Group}
 use Rattle.forward_program.specs.declared.held.Held.{Held}
 use Rattle.forward_program.specs.declared.held.Held.TheVariants as held
 use Rattle.forward_program.specs.Readings.{mode_of, remote_of, group_of, ip_at, other_address, own_ip}
+use Rattle.forward_program.specs.Acls.{entries_at}
 use Rattle.forward_program.specs.Built.{Binding, binding, bindings_of}
 use Rattle.forward_program.specs.Spots.{Entries}
 use Rattle.forward_program.specs.Hosts.{with_learnt}
@@ -84,10 +85,20 @@ forward_tables = PhysicalPort ∷ LogicalSwitch ∷ UcastMacsRemote ∷ McastMac
 abbrev pub all_entries : Rows → List Entry
 all_entries r = flat_map (table_entries r) forward_tables
 
--- what the rows show
+-- a row of ACL, whether a binding names it or not
+abbrev pub acl_entry : Rows → ℕ × Contents → Entry
+acl_entry r e = (spot.Acl e.0, held.Rules (entries_at r e.1))
+
+abbrev pub acl_entries : Rows → List Entry
+acl_entries r = map (acl_entry r) (rows_of Acl r)
+
+abbrev pub with_acls : Rows → Entries → Entries
+with_acls r m = put_all m (acl_entries r)
+
+-- what the rows but for those of ACLs show
 abbrev pub rows_shown : Rows → Entries
 rows_shown r = put_all maps.empty (all_entries r)
 
 -- what the rows and the learnt addresses show
 abbrev pub shown : Rows → List Learnt → Entries
-shown r l = with_learnt l (rows_shown r)
+shown r l = with_learnt l (with_acls r (rows_shown r))

@@ -3,6 +3,7 @@
 ghost use Rattle.std.specs.Prelude.{◌≡◌};
 ghost use Rattle.forward_program.specs.Places.{is_here};
 
+use acl_rules::Entry;
 use vtep_base::{Ipv4, List, Mac, Name, RowId, Vlan, Vni};
 
 /// Where an address of a switch is.
@@ -36,6 +37,11 @@ pub enum Fact {
         vlan: Vlan,
         switch: RowId,
         lists: List<RowId>,
+    },
+    /// An ACL that some binding's lists name, and its entries, by sequence and then by row.
+    Acl {
+        acl: RowId,
+        entries: List<Entry>,
     },
     /// A learnt address, or one of a bound switch behind another gateway, and where it is.
     Mac {

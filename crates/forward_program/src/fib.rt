@@ -1,6 +1,6 @@
 //! The forwarding state.
 
-ghost use Rattle.std.specs.Prelude.{◌≡◌, ◌≤◌, ◌+◌, ◌++◌, ℕ, List, false, true, None, ◌↔◌, length, vec_len, filter_map, flat_map, IsSome, IfOk, OnOk, OnErr};
+ghost use Rattle.std.specs.Prelude.{◌≡◌, ◌≤◌, ◌+◌, ◌++◌, ℕ, List, [], ◌∷◌, false, true, None, ◌↔◌, length, vec_len, filter_map, flat_map, IsSome, IfOk, OnOk, OnErr};
 ghost use Rattle.std.specs.List.{list_all};
 ghost use Rattle.std.specs.Option.{option_to_list};
 ghost use Rattle.vtep_base.specs.Maps as maps;
@@ -12,12 +12,13 @@ ghost use Rattle.forward_program.specs.Joins.{facts_of};
 ghost use Rattle.vtep_rows.specs.Sound.{Sound};
 ghost use Rattle.vtep_rows.specs.Changes.{changes};
 ghost use Rattle.forward_program.specs.Readings.{own_address, number_and_id, is_vlan};
-ghost use Rattle.forward_program.specs.Shown.{binding_entries, pair_entries, vni_entries, row_entries, table_entries, forward_tables, all_entries, shown};
+ghost use Rattle.forward_program.specs.Shown.{binding_entries, pair_entries, vni_entries, row_entries, table_entries, forward_tables, all_entries, acl_entry, with_acls, shown};
 ghost use Rattle.forward_program.specs.Hosts.{with_learnt};
 ghost use Rattle.forward_program.specs.Follows.{AreMoved};
 ghost use Rattle.mac_learning.specs.declared.Learnt.{Learnt as Entry};
 ghost use Rattle.mac_learning.specs.Learning.{IsOnce};
 
+use crate::acls::rules;
 use crate::follow::moves_own;
 use crate::held::{Few, Held, Lists};
 use crate::readings::{
@@ -51,7 +52,7 @@ impl<L: Ledger> Model for Fib<L> {
     ghost view = { λ f. record { entries = maps.of_list f.entries; broken = f.broken } };
 }
 
-/// The tables that the forwarding state is made of.
+/// The tables that the forwarding state is made of, but for that of the ACLs.
 const TABLES: [Table; 6] = [
     Table::PhysicalPort,
     Table::LogicalSwitch,
@@ -365,6 +366,40 @@ impl<L: Ledger> Fib<L> {
         Ok(())
     }
 
+    /// Puts an ACL.
+    pub(crate) fn put_acl(
+        &mut self,
+        alloc: Global,
+        rows: &Rows,
+        id: RowId,
+        row: &Row,
+        steps: &mut Steps<L>,
+    ) -> Result<(), OutOfMemory>
+        ensures ok { OnOk result (self.new.entries
+            ≡ put_all self.old.entries (acl_entry rows.now (id, row.now) ∷ [])) }
+        ensures same { self.new.broken ≡ self.old.broken }
+    {
+        let rules = rules(alloc, rows, row)?;
+        self.put(Spot::Acl(id), Held::Rules(rules), steps)
+    }
+
+    fn put_acls(
+        &mut self,
+        alloc: Global,
+        rows: &Rows,
+        steps: &mut Steps<L>,
+    ) -> Result<(), OutOfMemory>
+        ensures ok { OnOk result (self.new.entries ≡ with_acls rows.now self.old.entries) }
+        ensures same { self.new.broken ≡ self.old.broken }
+    {
+        'acls: for id in rows.ids(Table::Acl) {
+            if let Some(row) = rows.get(Table::Acl, id) {
+                self.put_acl(alloc, rows, id, row, steps)?;
+            }
+        }
+        Ok(())
+    }
+
     /// Adds what the rows and the learnt addresses have.
     fn fill_all(
         &mut self,
@@ -375,10 +410,11 @@ impl<L: Ledger> Fib<L> {
     ) -> Result<(), OutOfMemory>
         requires { IsSome (own_address rows.now) }
         ensures ok { OnOk result (self.new.entries ≡ with_learnt learned.now.entries
-            (put_all self.old.entries (all_entries rows.now))) }
+            (with_acls rows.now (put_all self.old.entries (all_entries rows.now)))) }
         ensures same { self.new.broken ≡ self.old.broken }
     {
         self.fill(alloc, rows, steps)?;
+        self.put_acls(alloc, rows, steps)?;
         self.put_learnt(learned, steps)
     }
 
@@ -435,7 +471,7 @@ impl<L: Ledger> Fib<L> {
         let _ = learned.entries();
         if let Some(own) = own_address(rows) {
             if !moves_own(change) {
-                return self.follow(alloc, own, learned, change, moved, steps);
+                return self.follow(alloc, own, rows, learned, change, moved, steps);
             }
         }
         self.clear(steps);

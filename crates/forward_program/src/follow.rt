@@ -1,11 +1,11 @@
-//! How the forwarding state follows a change: the places of what was in the rows are emptied, then what is in them is put, and
-//! last the learnt list is asked for each address that the change may concern.
+//! How the forwarding state follows a change: the places of what was in the rows are emptied, then what is in them is put, then the
+//! ACLs that the change touches, and last the learnt list is asked for each address that it may concern.
 
-ghost use Rattle.std.specs.Prelude.{◌≡◌, ℕ, List, [], ◌∷◌, true, false, Some, flat_map, option_map, IfSome, OnOk};
+ghost use Rattle.std.specs.Prelude.{◌≡◌, ◌&&◌, ◌==◌, ℕ, List, [], ◌∷◌, true, false, Some, filter_map, flat_map, option_map, IfSome, OnOk};
 ghost use Rattle.std.specs.List.{list_all, list_any};
 ghost use Rattle.std.specs.Option.{option_to_list};
 ghost use Rattle.vtep_schema.specs.Tables.{same_table};
-ghost use Rattle.vtep_rows.specs.Row.{Contents, put_all};
+ghost use Rattle.vtep_rows.specs.Row.{Contents, id_in, put_all};
 ghost use Rattle.vtep_rows.specs.Rows.{Rows as AllRows, IsRows};
 ghost use Rattle.vtep_rows.specs.Sound.{Sound};
 ghost use Rattle.vtep_rows.specs.Changes.{changes};
@@ -15,14 +15,14 @@ ghost use Rattle.forward_program.specs.declared.spots.Part.TheVariants as part;
 ghost use Rattle.forward_program.specs.Readings.{own_address, number_and_id, is_vlan};
 ghost use Rattle.forward_program.specs.Built.{IsIn};
 ghost use Rattle.forward_program.specs.Shown.{pair_entries, row_entries, shown};
-ghost use Rattle.forward_program.specs.Follows.{entries_if, entries_before, entries_after, was_row, places, both_of, port_places, IsBound, IsCleared, AreMoved, tunnel_ip, moves_own};
+ghost use Rattle.forward_program.specs.Follows.{entries_if, entries_before, entries_after, was_row, places, both_of, port_places, IsBound, IsCleared, is_of_acl, acl_tail, gone_acl, without, has_row, is_touched, touched_entry, touched_entries, acls_followed, AreMoved, tunnel_ip, moves_own};
 ghost use Rattle.mac_learning.specs.declared.Learnt.{Learnt as Entry};
 ghost use Rattle.mac_learning.specs.Learning.{IsOnce};
 ghost use Rattle.forward_program.specs.Same.{same_number};
 
 use crate::fib::Fib;
 use crate::readings::{
-    bound_to, ip, other_address, port_name, read_group, read_remote, tunnel_key, vlan_and_switch,
+    atoms, bound_to, ip, other_address, port_name, read_group, read_remote, tunnel_key, vlan_and_switch,
     vlan_pairs,
 };
 use crate::spots::{Part, Spot};
@@ -30,7 +30,7 @@ use mac_learning::{Learned, Learnt};
 use ovsdb_values::Atom;
 use std::alloc::Global;
 use vtep_base::{Ipv4, Ledger, Name, OutOfMemory, RowId, Steps, Vlan};
-use vtep_rows::{Row, RowChange};
+use vtep_rows::{Row, RowChange, Rows};
 use vtep_schema::{Column, Table};
 
 // ---- the gateway's own address
@@ -149,6 +149,78 @@ fn stays(spot: &Spot, new: &Spots) -> bool
         return true;
     }
     is_at(spot, &new.1)
+}
+
+// ---- ACLs
+
+fn is_of_acl(change: &RowChange) -> bool
+    ensures { result ≡ is_of_acl change.now }
+{
+    change.table == Table::Acl || change.table == Table::AclEntry
+}
+
+/// The change from its first row of an ACL or of an entry on.
+fn acl_tail(change: &[RowChange]) -> &[RowChange]
+    ensures { result.now ≡ acl_tail change.now }
+{
+    'change: for (at, row) in change.iter().enumerate() {
+        if is_of_acl(row) {
+            return &change[at..];
+        }
+    }
+    &[]
+}
+
+fn is_row(change: &RowChange, table: Table, id: RowId) -> bool
+    ensures { result ≡ same_table change.now.table table && (change.now.id == id) }
+{
+    change.table == table && change.id == id
+}
+
+fn has_row(change: &[RowChange], table: Table, id: RowId) -> bool
+    ensures { result ≡ has_row change.now table id }
+{
+    change.iter().any(|row| is_row(row, table, id))
+}
+
+/// Whether an atom names an entry whose row is in a change.
+fn has_entry(change: &[RowChange], atom: &Atom) -> bool
+    ensures { result ≡ list_any (has_row change.now Table.AclEntry)
+        (option_to_list (id_in atom.now)) }
+{
+    match atom {
+        Atom::Id(id) => has_row(change, Table::AclEntry, *id),
+        _ => false,
+    }
+}
+
+fn has_some_entry(change: &[RowChange], atoms: &[Atom]) -> bool
+    ensures { result ≡ list_any (has_row change.now Table.AclEntry)
+        (filter_map id_in atoms.now) }
+{
+    'atoms: for atom in atoms {
+        if has_entry(change, atom) {
+            return true;
+        }
+    }
+    false
+}
+
+/// Whether a change has the row of an ACL, or that of one of its entries.
+fn is_touched(change: &[RowChange], id: RowId, row: &Row) -> bool
+    ensures { result ≡ is_touched change.now (id, row.now) }
+{
+    has_row(change, Table::Acl, id) || has_some_entry(change, atoms(row, Column::AclEntries))
+}
+
+fn gone_acl(change: &RowChange) -> Option<Spot>
+    ensures { result ≡ gone_acl change.now }
+{
+    if change.table == Table::Acl && change.new.is_none() {
+        Some(Spot::Acl(change.id))
+    } else {
+        None
+    }
 }
 
 // ---- the bindings of a port
@@ -323,28 +395,111 @@ impl<L: Ledger> Fib<L> {
         Ok(())
     }
 
+    fn clear_acl(&mut self, change: &RowChange, steps: &mut Steps<L>)
+        ensures entries { self.new.entries
+            ≡ without self.old.entries (option_to_list (gone_acl change.now)) }
+        ensures same { self.new.broken ≡ self.old.broken }
+    {
+        if let Some(spot) = gone_acl(change) {
+            self.remove(&spot, steps);
+        }
+    }
+
+    /// Removes the ACLs that are no longer there.
+    fn clear_acls(&mut self, change: &[RowChange], steps: &mut Steps<L>)
+        ensures entries { self.new.entries
+            ≡ without self.old.entries (filter_map gone_acl change.now) }
+        ensures same { self.new.broken ≡ self.old.broken }
+    {
+        'change: for row in change {
+            self.clear_acl(row, steps);
+        }
+    }
+
+    fn put_if_touched(
+        &mut self,
+        alloc: Global,
+        rows: &Rows,
+        change: &[RowChange],
+        id: RowId,
+        row: &Row,
+        steps: &mut Steps<L>,
+    ) -> Result<(), OutOfMemory>
+        ensures ok { OnOk result (self.new.entries ≡ put_all self.old.entries
+            (touched_entry rows.now change.now (id, row.now))) }
+        ensures same { self.new.broken ≡ self.old.broken }
+    {
+        if !is_touched(change, id, row) {
+            return Ok(());
+        }
+        self.put_acl(alloc, rows, id, row, steps)
+    }
+
+    fn put_touched(
+        &mut self,
+        alloc: Global,
+        rows: &Rows,
+        change: &[RowChange],
+        steps: &mut Steps<L>,
+    ) -> Result<(), OutOfMemory>
+        ensures ok { OnOk result (self.new.entries
+            ≡ put_all self.old.entries (touched_entries rows.now change.now)) }
+        ensures same { self.new.broken ≡ self.old.broken }
+    {
+        'acls: for id in rows.ids(Table::Acl) {
+            if let Some(row) = rows.get(Table::Acl, id) {
+                self.put_if_touched(alloc, rows, change, id, row, steps)?;
+            }
+        }
+        Ok(())
+    }
+
+    /// Removes the ACLs that are no longer there, and puts those that a change touches.
+    fn follow_acls(
+        &mut self,
+        alloc: Global,
+        rows: &Rows,
+        change: &[RowChange],
+        steps: &mut Steps<L>,
+    ) -> Result<(), OutOfMemory>
+        ensures ok { OnOk result
+            (self.new.entries ≡ acls_followed rows.now change.now self.old.entries) }
+        ensures same { self.new.broken ≡ self.old.broken }
+    {
+        if change.is_empty() {
+            return Ok(());
+        }
+        self.clear_acls(change, steps);
+        self.put_touched(alloc, rows, change, steps)
+    }
+
     /// Makes it the state after a change that keeps the gateway's own address. What a remote row had is put anew before the learnt
     /// list is asked for its address.
     pub(crate) fn follow(
         &mut self,
         alloc: Global,
         own: Ipv4,
+        rows: &Rows,
         learned: &Learned,
         change: &[RowChange],
         moved: &[Learnt],
         steps: &mut Steps<L>,
     ) -> Result<(), OutOfMemory>
-        ensures state { (before now : AllRows) → (known : List Entry) → Sound before
-            → IsRows now → Sound now → own_address now ≡ Some own
-            → list_any moves_own change.now ≡ false → change.now ≡ changes before now
-            → IsOnce known → IsOnce learned.now.entries
+        requires rows { IsRows rows.now }
+        requires sound { Sound rows.now }
+        requires own { own_address rows.now ≡ Some own }
+        requires keeps { list_any moves_own change.now ≡ false }
+        requires once { IsOnce learned.now.entries }
+        ensures state { (before : AllRows) → (known : List Entry) → Sound before
+            → IsOnce known → change.now ≡ changes before rows.now
             → AreMoved known learned.now.entries moved.now
             → self.old.entries ≡ shown before known
-            → OnOk result (self.new.entries ≡ shown now learned.now.entries) }
+            → OnOk result (self.new.entries ≡ shown rows.now learned.now.entries) }
         ensures same { self.new.broken ≡ self.old.broken }
     {
         self.clear_rows(own, change, steps);
         self.put_rows(alloc, own, change, steps)?;
+        self.follow_acls(alloc, rows, acl_tail(change), steps)?;
         self.ask_all(learned, change, moved, steps)
     }
 }

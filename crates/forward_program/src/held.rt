@@ -3,6 +3,7 @@
 ghost use Rattle.std.specs.Prelude.{◌≡◌, ◌≤◌, length, vec_len};
 ghost use Rattle.forward_program.specs.Same.{same_number, same_lists, same_binding};
 
+use acl_rules::FewRules;
 use std::marker::Model;
 use vtep_base::{Ipv4, Mode, Name, RowId, Vlan, Vni};
 
@@ -97,6 +98,8 @@ pub enum Held {
     Members(Few<RowId>),
     /// At a locator: its address, which is not the gateway's own.
     Address(Ipv4),
+    /// At an ACL: its entries.
+    Rules(FewRules),
 }
 
 impl Held {

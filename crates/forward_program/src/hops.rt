@@ -5,7 +5,7 @@ ghost use Rattle.forward_program.specs.Rooms.{KeepsRoom};
 
 use std::alloc::Global;
 use std::marker::{Model, PhantomData};
-use vtep_base::{Ipv4, Ledger, Name, OutOfMemory, Vlan, Vni};
+use vtep_base::{Ipv4, Ledger, Name, OutOfMemory, RowId, Vlan, Vni};
 
 /// Where a frame comes from.
 #[derive(Clone, Copy)]
@@ -27,6 +27,17 @@ pub enum Outcome {
     Denied,
     /// No bound switch has the network.
     NoVni,
+}
+
+/// Whether a frame may enter at a VLAN of a port.
+#[derive(Clone, Copy, Debug, PartialEq, Eq)]
+pub enum Admission {
+    /// The VLAN of the port is bound to no switch.
+    Unbound,
+    /// An ACL of the binding denies it.
+    Denied,
+    /// It comes to this switch.
+    To(RowId),
 }
 
 /// Where a frame goes: out of VLANs of ports, and to addresses in packets of a network. Contracts see the two lists, the network,

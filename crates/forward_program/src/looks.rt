@@ -1,7 +1,8 @@
 //! What the forwarding state says, read off its entries.
 
 ghost use Rattle.std.specs.Prelude.{◌≡◌, ◌≤◌, ◌<◌, ◌+◌, List, length, vec_len, option_map, vec_capacity, MatchResult, Some, IfOk, OnOk, OnErr, ◌↔◌, false};
-ghost use Rattle.std.specs.List.{filter_map};
+ghost use Rattle.std.specs.List.{filter_map, list_any};
+ghost use Rattle.std.specs.Option.{option_to_list};
 ghost use Rattle.std.specs.Ordering.{nat_cmp};
 ghost use Rattle.std.specs.BTreeSet.{insert_key};
 ghost use Rattle.locator_sets.specs.Locators.{with_each};
@@ -9,17 +10,18 @@ ghost use Rattle.vtep_rows.specs.Rows.{Rows as AllRows, IsRows};
 ghost use Rattle.vtep_rows.specs.Sound.{Sound};
 ghost use Rattle.forward_program.specs.declared.facts.Fact.{Fact as SomeFact};
 ghost use Rattle.forward_program.specs.declared.facts.Place.{Place as SomePlace};
-ghost use Rattle.forward_program.specs.Built.{IsIn, AreApart, acl_rows, built};
+ghost use Rattle.forward_program.specs.Built.{IsIn, AreApart, acl_rows, names_acl, built};
 ghost use Rattle.forward_program.specs.Shown.{shown};
 ghost use Rattle.mac_learning.specs.declared.Learnt.{Learnt};
 ghost use Rattle.mac_learning.specs.Learning.{IsOnce};
-ghost use Rattle.forward_program.specs.Joins.{part_step, step_of, is_bound_at, bound_at, network_at, vni_at, mode_at, address_at, addresses_at, locators_at, place_by, place_at, found_at, flood_at, part_fact, fact_at, facts_of};
+ghost use Rattle.forward_program.specs.Joins.{part_step, step_of, is_bound_at, bound_at, network_at, vni_at, mode_at, address_at, addresses_at, locators_at, place_by, place_at, found_at, flood_at, part_fact, rules_at, lists_acl, is_listed_at, fact_at, facts_of};
 ghost use Rattle.forward_program.specs.Inserts.{InsertsAt};
 
 use crate::facts::{Fact, Place};
 use crate::fib::Fib;
 use crate::held::{Held, Lists};
 use crate::spots::{Part, Spot};
+use acl_rules::Rules;
 use replication::targets;
 use std::alloc::Global;
 use std::cmp::Ordering;
@@ -92,6 +94,36 @@ pub(crate) fn put_address(addresses: &mut Vec<Ipv4>, ip: Ipv4) -> Result<(), Out
         Err(at) => addresses.insert(at, ip)?,
     }
     Ok(())
+}
+
+fn is_acl(id: Option<RowId>, acl: RowId) -> bool
+    ensures { result ≡ list_any (λ row. row == acl) (option_to_list id) }
+{
+    match id {
+        Some(id) => id == acl,
+        None => false,
+    }
+}
+
+impl Lists {
+    fn names(&self, acl: RowId) -> bool
+        ensures { result ≡ names_acl acl self.now }
+    {
+        is_acl(self.all, acl) || is_acl(self.own, acl)
+    }
+}
+
+/// Whether it is a VLAN of a port whose lists name an ACL.
+fn lists_acl(acl: RowId, spot: &Spot, held: &Held) -> bool
+    ensures { result ≡ lists_acl acl (spot.now, held.now) }
+{
+    match spot {
+        Spot::Port(..) => match held {
+            Held::Bound { lists, .. } => lists.names(acl),
+            _ => false,
+        },
+        _ => false,
+    }
 }
 
 fn acl_list(alloc: Global, lists: &Lists) -> Result<List<RowId>, OutOfMemory>
@@ -316,6 +348,43 @@ impl<L: Ledger> Fib<L> {
         Some(Fact::Vni { vni, switch })
     }
 
+    /// The entries of an ACL.
+    pub(crate) fn rules(&self, acl: RowId) -> Option<&Rules>
+        ensures { option_map (λ rules. rules.now) result ≡ rules_at self.now.entries acl }
+    {
+        match self.entries.find(&Spot::Acl(acl)) {
+            Some(Held::Rules(rules)) => Some(rules.rules()),
+            _ => None,
+        }
+    }
+
+    /// Whether the lists of a VLAN of a port name an ACL.
+    fn is_listed(&self, acl: RowId) -> bool
+        ensures { result ≡ is_listed_at self.now.entries acl }
+    {
+        'entries: for (spot, held) in self.entries.walk(None) {
+            if lists_acl(acl, spot, held) {
+                return true;
+            }
+        }
+        false
+    }
+
+    fn acl_fact(&self, alloc: Global, acl: RowId) -> Result<Option<Fact>, OutOfMemory>
+        ensures { IfOk result (λ fact. fact ≡ fact_at self.now.entries (Spot.Acl acl)) }
+    {
+        if !self.is_listed(acl) {
+            return Ok(None);
+        }
+        match self.rules(acl) {
+            Some(rules) => {
+                let entries = List::from_vec(Vec::from_slice(alloc, rules.entries())?);
+                Ok(Some(Fact::Acl { acl, entries }))
+            }
+            None => Ok(None),
+        }
+    }
+
     /// The fact of a place.
     fn fact(&self, alloc: Global, spot: &Spot) -> Result<Option<Fact>, OutOfMemory>
         ensures { IfOk result (λ fact. fact ≡ fact_at self.now.entries spot.now) }
@@ -325,6 +394,7 @@ impl<L: Ledger> Fib<L> {
             Spot::Switch(switch, Part::Group(group)) => self.flood_fact(alloc, *switch, group),
             Spot::Switch(switch, Part::Host(mac)) => Ok(self.mac_fact(*switch, *mac)),
             Spot::Vni(vni) => Ok(self.vni_fact(*vni)),
+            Spot::Acl(acl) => self.acl_fact(alloc, *acl),
             _ => Ok(None),
         }
     }

@@ -61,7 +61,13 @@ pub(crate) fn atoms(row: &Row, column: Column) -> &[Atom]
     }
 }
 
-fn text(row: &Row, column: Column) -> Option<&[u8]>
+pub(crate) fn number(row: &Row, column: Column) -> Option<u64>
+    ensures { result ≡ number_at row.now column }
+{
+    first_number(atoms(row, column))
+}
+
+pub(crate) fn text(row: &Row, column: Column) -> Option<&[u8]>
     ensures { option_map (λ text. text.now) result ≡ text_in_row row.now column }
 {
     first_text(atoms(row, column))
@@ -73,7 +79,7 @@ pub(crate) fn ip(row: &Row, column: Column) -> Option<Ipv4>
     Ipv4::parse(text(row, column)?).ok()
 }
 
-fn mac(row: &Row, column: Column) -> Option<Mac>
+pub(crate) fn mac(row: &Row, column: Column) -> Option<Mac>
     ensures { result ≡ mac_at row.now column }
 {
     Mac::parse(text(row, column)?).ok()
