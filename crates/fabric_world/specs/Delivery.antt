@@ -1,23 +1,25 @@
 -- What is said of the delivery of frames in the states that scripts reach.
-use Rattle.std.specs.Prelude.{◌≡◌, ◌↔◌, Bool, List, [], ◌∷◌, ◌++◌, map, Some, Ok}
+use Rattle.std.specs.Prelude.{◌≡◌, ◌↔◌, Bool, true, false, if◌then◌else◌, List, [], ◌∷◌, ◌++◌, map, Some, Ok}
 use Rattle.std.specs.declared.cmp.Ordering.TheVariants.{Less}
 use Rattle.vtep_base.specs.Reading.{Bytes}
 use Rattle.vtep_base.specs.Maps as maps
 use Rattle.vtep_base.specs.declared.bindings.Binding.{Binding}
+use Rattle.vtep_base.specs.declared.shapes.Direction.TheVariants.{Ingress}
 use Rattle.ether_frames.specs.Frames.{Carries}
 use Rattle.vtep_rows.specs.Rows.{Rows, IsRows}
 use Rattle.vtep_rows.specs.Sound.{Sound}
 use Rattle.forward_program.specs.Built as built
 use Rattle.forward_program.specs.Built.{IsIn, AreApart}
+use Rattle.vtep_gateway.specs.declared.Reason.TheVariants.{Denied}
 use Rattle.vtep_gateway.specs.Gateway.{Gateway}
 use Rattle.vtep_gateway.specs.Monitors.{told_all}
 use Rattle.fabric_world.specs.declared.Line.{Line}
 use Rattle.fabric_world.specs.declared.Line.TheVariants.{Frame}
 use Rattle.fabric_world.specs.Intentions.{binding_cmp}
 use Rattle.fabric_world.specs.Happenings.{messages, fulls}
-use Rattle.fabric_world.specs.Outputs.{Output, Out}
+use Rattle.fabric_world.specs.Outputs.{Output, Dropped, Out}
 use Rattle.fabric_world.specs.World.{World, Outcome, start, run}
-use Rattle.fabric_world.specs.Logical.{logical_of, source, Delivers, Teaches, switch_of}
+use Rattle.fabric_world.specs.Logical.{logical_of, source, MayPass, Delivers, Teaches, switch_of}
 use Rattle.fabric_world.specs.ReadLines.{AreBytes, IsLine}
 use Rattle.fabric_world.specs.Settled.{Settled}
 
@@ -30,6 +32,10 @@ Leads w (line ∷ lines) new = (o : Outcome) × IsLine line × (run w line ≡ O
 abbrev pub IsAlone : List (Bytes × Gateway) → Type 0
 IsAlone (e ∷ []) = Unit {0}
 IsAlone _ = ⊥
+
+-- the access lists let a frame not in
+abbrev pub denials : Bytes → Bool → List Output
+denials g denied = if denied then Dropped g Denied ∷ [] else []
 
 -- a frame leaves at a binding, as bytes
 abbrev pub out_at : Binding × Bytes → Output
@@ -45,20 +51,23 @@ InOrder [] = Unit {0}
 InOrder (o ∷ os) = IsBelow o.0 os × InOrder os
 
 -- what is written for a frame that enters at b is what the gateway's monitors are told of how its rows differ, that it could not
--- learn the source where this is so, and then the frame's deliveries by what was known before, each once and in order; and the
--- source is learnt
+-- learn the source where this is so, that the lists let it not in where this is so, and then the frame's deliveries by what was
+-- known before, each once and in order; and the source of a frame that is let in is learnt
 pub record IsDelivered (w new : World) (b : Binding) (bytes : Bytes) (written : List Output) : Type 0 where
   pub before : Gateway
   pub after : Gateway
   pub was : maps.get w.gateways b.gateway ≡ Some before
   pub is : maps.get new.gateways b.gateway ≡ Some after
   pub full : Bool
+  pub denied : Bool
   pub outs : List (Binding × Bytes)
-  pub written_so : written ≡ messages b.gateway (told_all before.vtep.rows after.vtep.rows before.vtep.monitors) ++ (fulls b.gateway full ++ map out_at outs)
+  pub written_so : written ≡ messages b.gateway (told_all before.vtep.rows after.vtep.rows before.vtep.monitors) ++ (fulls b.gateway full ++ (denials b.gateway denied ++ map out_at outs))
   pub in_order : InOrder outs
   pub each_once : AreApart outs
+  pub lets_in : (inner : Bytes) → Carries bytes b.vlan inner → (denied ≡ false) ↔ MayPass (logical_of w) Ingress inner b
   pub exact : (c : Binding) (out : Bytes) → IsIn (c, out) outs ↔ Delivers (logical_of w) b bytes c out
-  pub learns : (s inner : Bytes) → Carries bytes b.vlan inner → IsIn (s, b) (logical_of w).bindings → Teaches (logical_of w) (logical_of new) s b (source inner) full
+  pub stays : denied ≡ true → new ≡ w
+  pub learns : denied ≡ false → (s inner : Bytes) → Carries bytes b.vlan inner → IsIn (s, b) (logical_of w).bindings → Teaches (logical_of w) (logical_of new) s b (source inner) full
 
 -- a frame that enters at b is accepted and delivered
 pub record IsRun (w : World) (b : Binding) (bytes : Bytes) : Type 0 where

@@ -62,6 +62,13 @@ fn say_fact(alloc: Global, fact: &Fact, answer: &mut Bytes) -> Result<(), CaseFa
                 say_row(alloc, *list, answer)?;
             }
         }
+        Fact::Acl { acl, entries } => {
+            answer.append(b"acl")?;
+            say_row(alloc, *acl, answer)?;
+            'entries: for entry in entries.as_slice() {
+                say_row(alloc, entry.id, answer)?;
+            }
+        }
         Fact::Mac { switch, mac, place } => {
             answer.append(b"mac")?;
             say_row(alloc, *switch, answer)?;

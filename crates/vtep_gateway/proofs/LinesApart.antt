@@ -72,6 +72,7 @@ line_exact : IsAntisymmetric line_cmp
 line_exact (line.Vni m) (line.Vni n) e = ap line.Vni (exact_unsigned m n e)
 line_exact (line.Bind p v) (line.Bind q w) e = let h = both_equal _ _ e in λ i. line.Bind (exact_bytes p q h.0 i) (exact_unsigned v w h.1 i)
 line_exact (line.Mac s m) (line.Mac t n) e = let h = both_equal _ _ e in λ i. line.Mac (exact_bytes s t h.0 i) (exact_unsigned m n h.1 i)
+line_exact (line.Acl m) (line.Acl n) e = ap line.Acl (exact_unsigned m n e)
 line_exact (line.Flood s None) (line.Flood t None) e = let h = both_equal _ _ e in λ i. line.Flood (exact_bytes s t h.0 i) None
 line_exact (line.Flood s (Some m)) (line.Flood t (Some n)) e = let h = both_equal _ _ e in λ i. line.Flood (exact_bytes s t h.0 i) (Some (exact_unsigned m n h.1 i))
 line_exact (line.Flood s None) (line.Flood t (Some n)) e = let clash : Less ≡ Equal = (both_equal (slice_cmp nat_cmp s t) Less e).1 in cc
@@ -84,12 +85,14 @@ name_in (line.Vni vni) = []
 name_in (line.Bind port vlan) = port
 name_in (line.Mac name mac) = name
 name_in (line.Flood name group) = name
+name_in (line.Acl acl) = []
 
 abbrev number_in : Line → ℕ
 number_in (line.Vni vni) = vni
 number_in (line.Bind port vlan) = vlan
 number_in (line.Mac name mac) = mac
 number_in (line.Flood name group) = 0
+number_in (line.Acl acl) = acl
 
 abbrev group_line : Line → Option ℕ
 group_line (line.Flood name group) = group
@@ -232,6 +235,7 @@ module _ (r : Rows) (learnt : List Learnt) (good : IsGood r learnt) where
   same_spot : (f g : Fact) → IsIn f (facts_of m) → IsIn g (facts_of m) → key_of r f ≡ key_of r g → spot_of f ≡ spot_of g
   same_spot (fact.Vni v s) (fact.Vni w u) is js e = ap (λ l. spot.Vni (number_in l)) e
   same_spot (fact.Bind p v s ls) (fact.Bind q w u ks) is js e = ap (λ l. spot.Port (name_in l) (number_in l)) e
+  same_spot (fact.Acl a es) (fact.Acl b fs) is js e = ap (λ l. spot.Acl (number_in l)) e
   same_spot (fact.Mac s a p) (fact.Mac u b q) is js e =
       let x = mac_switch s a p is in
       let y = mac_switch u b q js in

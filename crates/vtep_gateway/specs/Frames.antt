@@ -11,7 +11,9 @@ use Rattle.forward_program.specs.declared.hops.Outcome.{Outcome}
 use Rattle.forward_program.specs.declared.hops.Outcome.TheVariants as outcome
 use Rattle.forward_program.specs.Readings.{own_ip}
 use Rattle.forward_program.specs.Built.{built}
-use Rattle.forward_program.specs.Hop.{Ways, Way, hop, ways_of}
+use Rattle.forward_program.specs.declared.hops.Admission.{Admission}
+use Rattle.forward_program.specs.declared.hops.Admission.TheVariants as enter
+use Rattle.forward_program.specs.Hop.{Ways, Way, admission, hop, ways_of}
 use Rattle.forward_program.specs.Sent.{Sent, out_of, packets_of}
 use Rattle.vtep_gateway.specs.declared.Reason.{Reason}
 use Rattle.vtep_gateway.specs.declared.Reason.TheVariants as reason
@@ -56,13 +58,14 @@ forwarded v from inner = sent_unless (why_nowhere (way v from inner).outcome) (s
 abbrev pub sent_after : Gateway → Seen → Origin → Bytes → Step
 sent_after g s from inner = record { gateway = record g { vtep = s.vtep }; answer = record (forwarded s.vtep from inner) { sends = s.sends; full = s.full } }
 
--- the source of a frame that is bound is learnt first
-abbrev pub entered : Gateway → Bytes → ℕ → Bytes → Option ℕ → Step
-entered g port vlan inner None = record { gateway = g; answer = dropped reason.Unbound }
-entered g port vlan inner (Some switch) = sent_after g (with_source g.vtep switch port vlan inner) (origin.Port port vlan) inner
+-- the source of a frame that may enter is learnt first
+abbrev pub entered : Gateway → Bytes → ℕ → Bytes → Admission → Step
+entered g port vlan inner enter.Unbound = record { gateway = g; answer = dropped reason.Unbound }
+entered g port vlan inner enter.Denied = record { gateway = g; answer = dropped reason.Denied }
+entered g port vlan inner (enter.To switch) = sent_after g (with_source g.vtep switch port vlan inner) (origin.Port port vlan) inner
 
 abbrev pub frame_step : Gateway → Bytes → Result (ℕ × Bytes) FrameFault → Step
-frame_step g port (Ok f) = entered g port f.0 f.1 ((ways g.vtep).bound (port, f.0))
+frame_step g port (Ok f) = entered g port f.0 f.1 (admission (ways g.vtep) (port, f.0) f.1)
 frame_step g port (Err fault) = record { gateway = g; answer = dropped (reason.Frame fault) }
 
 abbrev pub on_frame : Gateway → Bytes → Bytes → Step

@@ -1,4 +1,4 @@
--- The text of `show`: one line for each fact of the forwarding state, by number, by port and VLAN, or by the switch's name and the address.
+-- The text of `show`: one line for each fact of the forwarding state, those of ACLs apart, by number, by port and VLAN, or by the switch's name and the address.
 use Rattle.std.specs.Prelude.{ℕ, List, [], ◌++◌, map, flat_map, Option, Some, None, unwrap_or, option_map, codes, decimal}
 use Rattle.std.specs.declared.cmp.Ordering.{Ordering}
 use Rattle.serde_json.specs.Data.{string}
@@ -56,9 +56,11 @@ group_text (Some mac) = mac_text mac
 abbrev pub ip_text : ℕ → Bytes
 ip_text ip = codes " " ++ ipv4_text ip
 
+-- nothing is written of an ACL but its name, at the bindings that list it
 abbrev pub line_of : Rows → Fact → Bytes
 line_of r (fact.Vni vni switch) = codes "vni " ++ decimal vni ++ codes " " ++ json_text (switch_name r switch) ++ codes "\n"
 line_of r (fact.Bind port vlan switch lists) = codes "bind " ++ port ++ codes " " ++ decimal vlan ++ codes " " ++ json_text (switch_name r switch) ++ flat_map (acl_text r) lists ++ codes "\n"
+line_of r (fact.Acl acl entries) = []
 line_of r (fact.Mac switch mac place) = codes "mac " ++ json_text (switch_name r switch) ++ codes " " ++ mac_text mac ++ place_text place ++ codes "\n"
 line_of r (fact.Flood switch group addresses) = codes "flood " ++ json_text (switch_name r switch) ++ codes " " ++ group_text group ++ flat_map ip_text addresses ++ codes "\n"
 
@@ -71,6 +73,7 @@ line_cmp = (line_order.ghosts).cmp
 abbrev pub key_of : Rows → Fact → Line
 key_of r (fact.Vni vni switch) = line.Vni vni
 key_of r (fact.Bind port vlan switch lists) = line.Bind port vlan
+key_of r (fact.Acl acl entries) = line.Acl acl
 key_of r (fact.Mac switch mac place) = line.Mac (switch_name r switch) mac
 key_of r (fact.Flood switch group addresses) = line.Flood (switch_name r switch) group
 

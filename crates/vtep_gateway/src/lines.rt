@@ -5,7 +5,7 @@ ghost use Rattle.std.specs.Prelude.{◌≡◌, IfOk};
 use std::alloc::Global;
 use std::cmp::Ordering;
 use std::marker::Model;
-use vtep_base::{Mac, Name, OutOfMemory, Txt, Vlan, Vni};
+use vtep_base::{Mac, Name, OutOfMemory, RowId, Txt, Vlan, Vni};
 
 /// The name of a switch. Names are in the order of their bytes.
 #[derive(Drop)]
@@ -100,4 +100,6 @@ pub enum Line {
     Mac(Label, Mac),
     /// Of a group address of a switch, or of all destinations that are not known.
     Flood(Label, Option<Mac>),
+    /// Of an ACL: an empty one.
+    Acl(RowId),
 }

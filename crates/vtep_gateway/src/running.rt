@@ -3,6 +3,7 @@
 ghost use Rattle.std.specs.Prelude.{◌≡◌, ◌++◌, IfOk, OnOk, OnErr};
 ghost use Rattle.forward_program.specs.Joins.{facts_of};
 ghost use Rattle.forward_program.specs.Shown.{shown};
+ghost use Rattle.forward_program.specs.Hop.{admission};
 ghost use Rattle.vtep_gateway.specs.Gateway.{new_gateway, nothing};
 ghost use Rattle.vtep_gateway.specs.Sessions.{on_bytes};
 ghost use Rattle.vtep_gateway.specs.Ready.{IsReady};
@@ -20,7 +21,7 @@ use crate::show::show;
 use crate::streams::Streams;
 use crate::vtep::Vtep;
 use crate::{Answer, Event, EventRefused, Reason};
-use forward_program::{Fib, Hops, Origin};
+use forward_program::{Admission, Fib, Hops, Origin};
 use mac_learning::Learned;
 use std::alloc::Global;
 use std::marker::Model;
@@ -193,12 +194,14 @@ impl<L: Ledger> Running<L> {
         requires ready { IsReady self.old }
         requires frame { IsInner inner.now }
         ensures ok { IfOk result (λ a. entered self.old.state port.now vlan inner.now
-            ((ways self.old.state.vtep).bound (port.now, vlan))
+            (admission (ways self.old.state.vtep) (port.now, vlan) inner.now)
             ≡ record { gateway = self.new.state; answer = a }) }
         ensures ready { OnOk result (IsReady self.new) }
     {
-        let Some(switch) = self.fib.switch_at(*port, vlan) else {
-            return Ok(Answer::dropped(self.alloc, Reason::Unbound));
+        let switch = match self.fib.admit(*port, vlan, inner) {
+            Admission::To(switch) => switch,
+            Admission::Unbound => return Ok(Answer::dropped(self.alloc, Reason::Unbound)),
+            Admission::Denied => return Ok(Answer::dropped(self.alloc, Reason::Denied)),
         };
         let mut sends = List::new(self.alloc);
         let full = self.vtep.learn(switch, port, vlan, inner, &mut self.fib, steps, &mut sends)?;

@@ -217,6 +217,7 @@ fn line_of(alloc: Global, rows: &Rows, fact: &Fact) -> Result<Bytes, OutOfMemory
             switch,
             lists,
         } => bind_line(alloc, rows, port, *vlan, *switch, lists.as_slice()),
+        Fact::Acl { .. } => Ok(Bytes::new(alloc)),
         Fact::Mac { switch, mac, place } => mac_line(alloc, rows, *switch, *mac, place),
         Fact::Flood {
             switch,
@@ -239,6 +240,7 @@ fn key_of(alloc: Global, rows: &Rows, fact: &Fact) -> Result<Line, OutOfMemory>
     match fact {
         Fact::Vni { vni, .. } => Ok(Line::Vni(*vni)),
         Fact::Bind { port, vlan, .. } => Ok(Line::Bind(*port, *vlan)),
+        Fact::Acl { acl, .. } => Ok(Line::Acl(*acl)),
         Fact::Mac { switch, mac, .. } => Ok(Line::Mac(label(alloc, rows, *switch)?, *mac)),
         Fact::Flood { switch, group, .. } => {
             Ok(Line::Flood(label(alloc, rows, *switch)?, *group))
@@ -292,7 +294,8 @@ fn put_heading(name: &Name, rows: &Rows, out: &mut Bytes) -> Result<(), OutOfMem
     out.append(b"\n")
 }
 
-/// Appends the text of `show`: the gateway's name and its own address, and a line for each fact of its forwarding state.
+/// Appends the text of `show`: the gateway's name and its own address, and a line for each fact of
+/// its forwarding state, those of ACLs apart.
 pub(crate) fn show<L: Ledger>(
     alloc: Global,
     name: &Name,
