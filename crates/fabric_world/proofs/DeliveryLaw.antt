@@ -1,5 +1,5 @@
 -- Frames that enter at a binding are delivered, where there is one gateway and the tables are settled.
-use Rattle.std.proofs.Common.{◌≡◌, ◌⊎◌, inl, inr, ℕ, Bool, true, false, not, cond, ◌&&◌, List, [], ◌∷◌, ◌++◌, map, is_some, Option, Some, None, Result, Ok, refl, sym, ap, subst, ◌∙◌, append-nil}
+use Rattle.std.proofs.Common.{◌≡◌, ◌⊎◌, ◌↔◌, inl, inr, ℕ, Bool, true, false, not, cond, ◌&&◌, List, [], ◌∷◌, ◌++◌, map, is_some, Option, Some, None, Result, Ok, refl, sym, ap, subst, ◌∙◌, append-nil}
 use Rattle.std.specs.Prelude.{◌==◌}
 use Rattle.std.specs.List.{filter, filter_map, flat_map}
 use Rattle.std.specs.Option.{option_map}
@@ -16,6 +16,9 @@ use Rattle.vtep_base.specs.Maps as maps
 use Rattle.vtep_base.specs.Texts.{is_name}
 use Rattle.vtep_base.specs.declared.answers.LineReason.TheVariants.{Unknown}
 use Rattle.vtep_base.specs.declared.bindings.Binding.{Binding}
+use Rattle.vtep_base.specs.declared.shapes.Direction.TheVariants.{Ingress, Egress}
+use Rattle.ether_frames.specs.declared.fields.Headers.{Headers}
+use Rattle.ether_frames.specs.Headers.{headers_of}
 use Rattle.ether_frames.specs.Frames.{Carries, frame_of, tagged}
 use Rattle.ether_frames.specs.declared.FrameFault.{FrameFault}
 use Rattle.ether_frames.proofs.Carried.{read_back}
@@ -31,13 +34,15 @@ use Rattle.vtep_rows.proofs.Kept.{its_contents}
 use Rattle.mac_learning.specs.declared.Learnt.{Learnt}
 use Rattle.mac_learning.specs.Learning.{entry, found}
 use Rattle.forward_program.specs.declared.hops.Origin.TheVariants as origin
+use Rattle.forward_program.specs.declared.hops.Admission.{Admission}
+use Rattle.forward_program.specs.declared.hops.Admission.TheVariants as enter
 use Rattle.forward_program.specs.declared.hops.Outcome.TheVariants.{Done}
 use Rattle.forward_program.specs.declared.sent.Out.{Out}
 use Rattle.forward_program.specs.Readings.{own_ip}
 use Rattle.forward_program.specs.Built as built
-use Rattle.forward_program.specs.Built.{IsIn, bindings}
+use Rattle.forward_program.specs.Built.{IsIn, bindings, acl_rows}
 use Rattle.forward_program.specs.Joins.{Port}
-use Rattle.forward_program.specs.Hop.{Ways, Way, nowhere, same_port, tunnelled, or_else, place_of, ports_to, addresses_to, forwarded, from_port, in_order, port_by, ways_of}
+use Rattle.forward_program.specs.Hop.{Ways, Way, Listed, nowhere, same_port, may_pass, let_out, admitted, admission, tunnelled, or_else, place_of, ports_to, addresses_to, forwarded, from_port, in_order, port_by, ways_of}
 use Rattle.forward_program.specs.Hop as hop
 use Rattle.forward_program.specs.Sent.{out_of, packets_of}
 use Rattle.forward_program.proofs.HopLaws.{number_itself}
@@ -50,6 +55,7 @@ use Rattle.forward_program.proofs.Unique.{binding_of, port_text, bytes_itself}
 use Rattle.local_tables.specs.Followed.{is_bound_there}
 use Rattle.local_tables.proofs.Members.{all_in}
 use Rattle.vtep_gateway.specs.declared.EventRefused.TheVariants.{NoPort}
+use Rattle.vtep_gateway.specs.declared.Reason.TheVariants as reason
 use Rattle.vtep_gateway.specs.declared.Event.{Event}
 use Rattle.vtep_gateway.specs.declared.Event.TheVariants as event
 use Rattle.vtep_gateway.specs.Vtep.{Vtep}
@@ -58,7 +64,8 @@ use Rattle.vtep_gateway.specs.Moves as moves
 use Rattle.vtep_gateway.specs.Monitors.{told_all}
 use Rattle.vtep_gateway.specs.Ports.{is_named, port_named}
 use Rattle.vtep_gateway.specs.Learning.{Seen, with_source}
-use Rattle.vtep_gateway.specs.Frames.{way, why_nowhere, sent_along, sent_unless, entered, frame_step}
+use Rattle.vtep_gateway.specs.Frames.{way, why_nowhere, sent_along, sent_unless, dropped, entered, frame_step}
+use Rattle.vtep_gateway.proofs.ToldNothing.{nothing_told}
 use Rattle.vtep_gateway.specs.Good.{IsGood}
 use Rattle.fabric_world.specs.declared.Fault.{Fault}
 use Rattle.fabric_world.specs.declared.Line.{Line}
@@ -68,20 +75,21 @@ use Rattle.fabric_world.specs.Outputs.{Output}
 use Rattle.fabric_world.specs.Outputs as output
 use Rattle.fabric_world.specs.Intentions.{bytes_cmp}
 use Rattle.fabric_world.specs.World.{World, at_gateways, run}
-use Rattle.fabric_world.specs.Logical.{logical_of, Delivers, Owns, Teaches, switch_of, place, member, members, learnt_at, destination, source}
+use Rattle.fabric_world.specs.Logical.{logical_of, MayPass, Delivers, Owns, Teaches, switch_of, place, member, members, learnt_at, destination, source}
 use Rattle.fabric_world.specs.ReadLines.{AreBytes}
-use Rattle.fabric_world.specs.Delivery.{IsAlone, out_at, IsDelivered, IsRun, SettledDelivers, SwitchesAreRows}
+use Rattle.fabric_world.specs.Delivery.{IsAlone, denials, out_at, IsDelivered, IsRun, SettledDelivers, SwitchesAreRows}
 use Rattle.fabric_world.proofs.Lists.{in_filter, filter_in, some_first}
 use Rattle.fabric_world.proofs.Reached.{follows, reached_good}
 use Rattle.fabric_world.proofs.Switches.{names_are_rows}
-use Rattle.fabric_world.proofs.Facts.{Binds, here, IsQuiet, port_same, place_is, no_flood, told_port, port_told, one_switch, bound_is}
+use Rattle.fabric_world.proofs.Facts.{Binds, BindsListed, here, IsQuiet, port_same, place_is, no_flood, told_port, port_told, one_switch, same_lists, bound_is, lists_is}
+use Rattle.fabric_world.proofs.Passing.{passes, may_is, passes_so, so_passes}
 use Rattle.fabric_world.proofs.Quiet.{settled_quiet}
-use Rattle.fabric_world.proofs.SameRows.{built_same}
+use Rattle.fabric_world.proofs.SameRows.{built_same, no_changes}
 use Rattle.fabric_world.proofs.Taught.{IsTaught, source_taught, found_as_before}
 use Rattle.fabric_world.proofs.LearntBindings.{learnt_binds, binds_learnt}
 use Rattle.fabric_world.proofs.Alone.{member_in, in_member, owner_in, in_owner}
 use Rattle.fabric_world.proofs.Teaching.{teaches}
-use Rattle.fabric_world.proofs.Ports.{ordered_is, is_ordered, AreSorted, ordered_sorted, but_sorted, if_sorted, at_port, as_out, outs_in_order, once_in_order}
+use Rattle.fabric_world.proofs.Ports.{ordered_is, is_ordered, AreSorted, ordered_sorted, let_sorted, but_sorted, if_sorted, at_port, as_out, outs_in_order, once_in_order}
 use Rattle.fabric_world.proofs.Frames.{to_itself, to_another, group_is, source_group_is, source_single}
 
 same_carried : (x y : ℕ × Bytes) → ◌≡◌ {A = Result (ℕ × Bytes) FrameFault} (Ok x) (Ok y) → x ≡ y
@@ -126,8 +134,11 @@ module _ (gateway : Gateway) (good : IsGood gateway.vtep.rows gateway.vtep.learn
   abbrev entering : Port
   entering = (c.port, c.vlan)
 
+  abbrev headers : Headers
+  headers = headers_of inner
+
   abbrev dst : ℕ
-  dst = hop.destination inner
+  dst = headers.destination
 
   abbrev src : ℕ
   src = hop.source inner
@@ -143,8 +154,21 @@ module _ (gateway : Gateway) (good : IsGood gateway.vtep.rows gateway.vtep.learn
   abbrev later : List Learnt
   later = seen.vtep.learned
 
-  bound_before : (ways_of (built.built r l)).bound (c.port, c.vlan) ≡ Some c.switch
-  bound_before = bound_is r l good.settled.rows good.settled.sound quiet c c_in
+  -- ---- whether the lists let it in
+
+  abbrev let_in : Bool
+  let_in = passes r good.settled.rows good.settled.sound quiet headers Ingress (acl_rows c.lists)
+
+  abbrev admitted_if : Bool → Admission
+  admitted_if b = cond b (enter.To c.switch) enter.Denied
+
+  -- of that the learnt addresses say nothing
+  admission_is : (known : List Learnt) → admission (ways_of (built.built r known)) entering inner ≡ admitted_if let_in
+  admission_is known =
+      let facts : Ways = ways_of (built.built r known) in
+      ap (admitted facts entering headers) (bound_is r known good.settled.rows good.settled.sound quiet c c_in)
+      ∙ ap (λ ls. admitted_if (may_pass facts Ingress headers ls)) (lists_is r known good.settled.rows good.settled.sound quiet c c_in)
+      ∙ ap admitted_if (may_is r good.settled.rows good.settled.sound quiet headers Ingress known c c_in)
 
   abbrev new : Learnt
   new = entry c.switch src c.port c.vlan v.clock
@@ -165,7 +189,7 @@ module _ (gateway : Gateway) (good : IsGood gateway.vtep.rows gateway.vtep.learn
   known = cond (addresses.is_group dst) None (found c.switch dst l)
 
   abbrev others : List Port
-  others = ports_to facts c.switch (Some entering) (option_map here known)
+  others = ports_to facts c.switch (Some entering) headers (option_map here known)
 
   abbrev ports : List Port
   ports = cond itself [] others
@@ -194,21 +218,21 @@ module _ (gateway : Gateway) (good : IsGood gateway.vtep.rows gateway.vtep.learn
       ap (tunnelled vni) ((λ i. or_else (no_targets (addresses.is_group dst) i) (facts.flood c.switch None)) ∙ no_flood r later quiet c.switch None)
       ∙ none_tunnelled vni
 
-  chosen : (b : Bool) → itself ≡ b → cond b (nowhere Done vni) (forwarded facts c.switch (Some entering) vni dst) ≡ record { outcome = Done; ports = cond b [] others; addresses = []; vni = vni }
+  chosen : (b : Bool) → itself ≡ b → cond b (nowhere Done vni) (forwarded facts c.switch (Some entering) vni headers) ≡ record { outcome = Done; ports = cond b [] others; addresses = []; vni = vni }
   chosen true e = refl
   chosen false e =
       (λ i. record {
         outcome = Done;
-        ports = ports_to facts c.switch (Some entering) (place_known e i);
+        ports = ports_to facts c.switch (Some entering) headers (place_known e i);
         addresses = addresses_to facts c.switch vni dst (place_known e i);
         vni = vni;
       })
       ∙ ap (λ ips. record { outcome = Done; ports = others; addresses = ips; vni = vni }) (no_addresses known)
 
-  way_is : way seen.vtep (origin.Port c.port c.vlan) inner ≡ goes
-  way_is =
+  way_is : let_in ≡ true → way seen.vtep (origin.Port c.port c.vlan) inner ≡ goes
+  way_is open =
       ap (λ fs. hop.hop (ways_of fs) (origin.Port c.port c.vlan) inner) (built_same seen.vtep.rows r taught.same later)
-      ∙ ap (λ o. from_port facts entering o dst src) (bound_is r later good.settled.rows good.settled.sound quiet c c_in)
+      ∙ ap (from_port facts entering headers) (admission_is later ∙ ap admitted_if open)
       ∙ chosen itself refl
 
   -- the port is there
@@ -229,16 +253,34 @@ module _ (gateway : Gateway) (good : IsGood gateway.vtep.rows gateway.vtep.learn
   abbrev stepped : Step
   stepped = step_by goes
 
-  step_is : moves.step gateway (event.Frame c.port bytes) ≡ stepped
-  step_is =
+  enters : moves.step gateway (event.Frame c.port bytes) ≡ entered gateway c.port c.vlan inner (admitted_if let_in)
+  enters =
       ap (λ b. cond b (frame_step gateway c.port (frame_of bytes)) (refused gateway NoPort)) port_there
       ∙ ap (frame_step gateway c.port) (read_back bytes inner c.vlan carries)
-      ∙ ap (entered gateway c.port c.vlan inner) bound_before
-      ∙ ap step_by way_is
+      ∙ ap (entered gateway c.port c.vlan inner) (admission_is l)
 
-  by_known : (o : Option Learnt) → AreSorted (ports_to facts c.switch (Some entering) (option_map here o))
-  by_known (Some e) = but_sorted entering ((e.port, e.vlan) ∷ []) (tt, tt)
-  by_known None = but_sorted entering (facts.ports c.switch) (ordered_sorted (filter_map (port_by c.switch) (built.built r later)))
+  step_is : let_in ≡ true → moves.step gateway (event.Frame c.port bytes) ≡ stepped
+  step_is open = enters ∙ ap (λ b. entered gateway c.port c.vlan inner (admitted_if b)) open ∙ ap step_by (way_is open)
+
+  -- one that is not let in
+  abbrev kept_out : Step
+  kept_out = record { gateway = gateway; answer = dropped reason.Denied }
+
+  denied_is : let_in ≡ false → moves.step gateway (event.Frame c.port bytes) ≡ kept_out
+  denied_is shut = enters ∙ ap (λ b. entered gateway c.port c.vlan inner (admitted_if b)) shut
+
+  abbrev goes_out : Listed → Bool
+  goes_out b = may_pass facts Egress headers b.1
+
+  -- the binding at which an address is learnt
+  abbrev its_binding : Learnt → Listed
+  its_binding e = ((e.port, e.vlan), facts.lists (e.port, e.vlan))
+
+  by_known : (o : Option Learnt) → AreSorted (ports_to facts c.switch (Some entering) headers (option_map here o))
+  by_known (Some e) = but_sorted entering (let_out facts headers (its_binding e ∷ [])) (let_sorted goes_out (its_binding e ∷ []) (tt, tt))
+  by_known None =
+      but_sorted entering (let_out facts headers (facts.ports c.switch))
+      (let_sorted goes_out (facts.ports c.switch) (ordered_sorted (filter_map (port_by c.switch) (built.built r later))))
 
   go_sorted : AreSorted ports
   go_sorted = if_sorted itself others (by_known known)
@@ -267,10 +309,10 @@ module _ (gateway : Gateway) (good : IsGood gateway.vtep.rows gateway.vtep.learn
     abbrev ok : {A : Type 0} → A → Result A Fault
     ok a = Ok a
 
-    event_is : event_at gs g frame ≡ ok (follows gs g frame stepped)
-    event_is =
+    event_by : (s : Step) → moves.step gateway frame ≡ s → event_at gs g frame ≡ (accepted s >>= (λ s. ok (follows gs g frame s)))
+    event_by s is =
         ap (λ o. or_refuse (record { word = 1; reason = Unknown }) o >>= (λ gateway. accepted (moves.step gateway frame) >>= (λ s. ok (follows gs g frame s)))) at
-        ∙ ap (λ s. accepted s >>= (λ s. ok (follows gs g frame s))) step_is
+        ∙ ap (λ s. accepted s >>= (λ s. ok (follows gs g frame s))) is
 
     abbrev outs : List (Binding × Bytes)
     outs = map (as_out g inner) ports
@@ -296,10 +338,17 @@ module _ (gateway : Gateway) (good : IsGood gateway.vtep.rows gateway.vtep.learn
         ∙ ap (λ (os : List Output). let h : Happening = record { gateways = after; output = os } in h) (append-nil (messages g seen.sends ++ (fulls g seen.full ++ map (λ (o : Out). output.Out g o.port o.bytes) (map (out_of inner) ports))))
         ∙ (λ i. happens (messages g (taught.told i)) (as_written ports i))
 
-    run_is : run w line ≡ Ok (record { world = record w { gateways = after }; output = written })
-    run_is =
-        ap (λ e. e >>= (λ h. ok (at_gateways w h))) event_is
+    run_is : let_in ≡ true → run w line ≡ Ok (record { world = record w { gateways = after }; output = written })
+    run_is open =
+        ap (λ e. e >>= (λ h. ok (at_gateways w h))) (event_by stepped (step_is open))
         ∙ ap (λ h. ok (at_gateways w h)) happens_is
+
+    -- one that is not let in
+    abbrev as_before : Gateways
+    as_before = maps.insert gs g gateway
+
+    denied_run : let_in ≡ false → run w line ≡ Ok (record { world = record w { gateways = as_before }; output = output.Dropped g reason.Denied ∷ [] })
+    denied_run shut = ap (λ e. e >>= (λ h. ok (at_gateways w h))) (event_by kept_out (denied_is shut))
 
     -- ---- the bindings of the fabric, and the addresses that are learnt
 
@@ -332,53 +381,86 @@ module _ (gateway : Gateway) (good : IsGood gateway.vtep.rows gateway.vtep.learn
         let clash : true ≡ false = sym test ∙ not_true (same_port q entering) other in
         cc
 
+    -- the lists of a binding let it out
+    out_so : (q : Port) (m : Binds r q.0 q.1 c.switch) (lists : List ℕ) → lists ≡ acl_rows m.of.lists → may_pass facts Egress headers lists ≡ true → MayPass (logical_of w) Egress inner (at_port g q)
+    out_so q m lists same may =
+        let so = sym (may_is r good.settled.rows good.settled.sound quiet headers Egress later m.of m.there) ∙ ap (may_pass facts Egress headers) (sym same) ∙ may in
+        subst (λ (x : Binding). MayPass (logical_of w) Egress inner x) (λ i. at_port g (sym m.port_is i, sym m.vlan_is i))
+        (passes_so r good.settled.rows good.settled.sound quiet w g gateway only refl inner Egress m.of m.there so)
+
+    -- the lists of the binding at which an address is learnt
+    its_lists : (e : Learnt) (m : Binds r e.port e.vlan c.switch) → facts.lists (e.port, e.vlan) ≡ acl_rows m.of.lists
+    its_lists e m = (λ i. facts.lists (m.port_is i, m.vlan_is i)) ∙ lists_is r later good.settled.rows good.settled.sound quiet m.of m.there
+
     -- at a binding of the switch other than that at which the frame entered
-    leaves : itself ≡ false → (q : Port) → Binds r q.0 q.1 c.switch → not (same_port q entering) ≡ true
+    leaves : let_in ≡ true → itself ≡ false → (q : Port) → Binds r q.0 q.1 c.switch → not (same_port q entering) ≡ true → MayPass (logical_of w) Egress inner (at_port g q)
         → Owns (logical_of w) (switch_of r c.switch) (destination inner) (at_port g q) ⊎ ((d : Binding) → Owns (logical_of w) (switch_of r c.switch) (destination inner) d → ⊥)
         → Delivers (logical_of w) (place g c) bytes (at_port g q) (tagged q.1 inner)
-    leaves away q m other owned = (
+    leaves open away q m other out owned = (
       switch_of r c.switch,
       inner,
       carries,
       record {
         enters = member_in w g gateway only c c_in;
+        let_in = passes_so r good.settled.rows good.settled.sound quiet w g gateway only refl inner Ingress c c_in open;
         to_another = to_another inner away;
         leaves = subst (λ (x : Bytes × Binding). IsIn x (logical_of w).bindings) (λ i. (switch_of r (sym m.switch_is i), at_port g (sym m.port_is i, sym m.vlan_is i))) (member_in w g gateway only m.of m.there);
         elsewhere = elsewhere q other;
+        let_out = out;
         owned = owned;
       },
       refl,
     )
 
-    leaves_by : itself ≡ false → (o : Option Learnt) → known ≡ o → (q : Port) → IsIn q (ports_to facts c.switch (Some entering) (option_map here o)) → Delivers (logical_of w) (place g c) bytes (at_port g q) (tagged q.1 inner)
-    leaves_by away (Some e) is q there =
-        let f = in_filter (λ p. not (same_port p entering)) q ((e.port, e.vlan) ∷ []) there in
+    leaves_by : let_in ≡ true → itself ≡ false → (o : Option Learnt) → known ≡ o → (q : Port) → IsIn q (ports_to facts c.switch (Some entering) headers (option_map here o)) → Delivers (logical_of w) (place g c) bytes (at_port g q) (tagged q.1 inner)
+    leaves_by open away (Some e) is q there =
+        let f = in_filter (λ p. not (same_port p entering)) q (let_out facts headers (its_binding e ∷ [])) there in
+        let b = in_map (λ (b : Listed). b.0) q (filter goes_out (its_binding e ∷ [])) f.1 in
+        let t = in_filter goes_out b.0 (its_binding e ∷ []) b.1 in
         let u = unless (addresses.is_group dst) (found c.switch dst l) e is in
         let a = found_address c.switch dst l e u.1 in
-        let same : q ≡ (e.port, e.vlan) = elim f.1 [ inl same ↦ same | inr never ↦ absurd never ] in
+        let its : b.0 ≡ its_binding e = elim t.1 [ inl same ↦ same | inr never ↦ absurd never ] in
+        let same : q ≡ (e.port, e.vlan) = b.2 ∙ ap (λ (x : Listed). x.0) its in
         let m : Binds r e.port e.vlan c.switch = subst (Binds r e.port e.vlan) a.0 (binds e (found_entry c.switch dst l e u.1)) in
-        leaves away q (subst (λ (p : Port). Binds r p.0 p.1 c.switch) (sym same) m) f.0
+        leaves open away q (subst (λ (p : Port). Binds r p.0 p.1 c.switch) (sym same) m) f.0
+        (subst (λ (p : Port). MayPass (logical_of w) Egress inner (at_port g p)) (sym same) (out_so (e.port, e.vlan) m (facts.lists (e.port, e.vlan)) (its_lists e m) (ap goes_out (sym its) ∙ t.0)))
         (inl (subst (λ (p : Port). Owns (logical_of w) (switch_of r c.switch) (destination inner) (at_port g p)) (sym same) (owns_known e is)))
-    leaves_by away None is q there =
-        let f = in_filter (λ p. not (same_port p entering)) q (facts.ports c.switch) there in
-        leaves away q (told_port r later quiet c.switch q (ordered_is q (filter_map (port_by c.switch) (built.built r later)) f.1)) f.0
+    leaves_by open away None is q there =
+        let f = in_filter (λ p. not (same_port p entering)) q (let_out facts headers (facts.ports c.switch)) there in
+        let b = in_map (λ (b : Listed). b.0) q (filter goes_out (facts.ports c.switch)) f.1 in
+        let t = in_filter goes_out b.0 (facts.ports c.switch) b.1 in
+        let m = told_port r later quiet c.switch b.0 (ordered_is b.0 (filter_map (port_by c.switch) (built.built r later)) t.1) in
+        leaves open away q (subst (λ (p : Port). Binds r p.0 p.1 c.switch) (sym b.2) m.0) f.0
+        (subst (λ (p : Port). MayPass (logical_of w) Egress inner (at_port g p)) (sym b.2) (out_so b.0.0 m.0 b.0.1 m.1 t.0))
         (inr (λ d o. let k = known_by d o in let clash : ◌≡◌ {A = Option Learnt} None (Some k.0) = sym is ∙ k.1 in cc))
 
     -- each binding of the switch at which an owner is, or each other one where there is none
-    goes_by : (o : Option Learnt) → known ≡ o → (q : Port) → not (same_port q entering) ≡ true → IsIn q (facts.ports c.switch)
-        → Owns (logical_of w) (switch_of r c.switch) (destination inner) (at_port g q) ⊎ ((d : Binding) → Owns (logical_of w) (switch_of r c.switch) (destination inner) d → ⊥)
-        → IsIn q (ports_to facts c.switch (Some entering) (option_map here o))
-    goes_by (Some e) is q other there (inl owns) =
-        let k = known_by (at_port g q) owns in
+    goes_by : (o : Option Learnt) → known ≡ o → (d : built.Binding) → IsIn d (bindings r) → not (same_port (d.port, d.vlan) entering) ≡ true → goes_out ((d.port, d.vlan), acl_rows d.lists) ≡ true
+        → IsIn ((d.port, d.vlan), acl_rows d.lists) (facts.ports c.switch)
+        → Owns (logical_of w) (switch_of r c.switch) (destination inner) (place g d) ⊎ ((x : Binding) → Owns (logical_of w) (switch_of r c.switch) (destination inner) x → ⊥)
+        → IsIn (d.port, d.vlan) (ports_to facts c.switch (Some entering) headers (option_map here o))
+    goes_by (Some e) is d d_in other out there (inl owns) =
+        let q : Port = (d.port, d.vlan) in
+        let k = known_by (place g d) owns in
         let same : e ≡ k.0 = same_some e k.0 (sym is ∙ k.1) in
         let port : q ≡ (e.port, e.vlan) = ap port_of (k.2 ∙ ap (learnt_at g) (sym same)) in
-        filter_in (λ p. not (same_port p entering)) q ((e.port, e.vlan) ∷ []) other (inl port)
-    goes_by (Some e) is q other there (inr none) = absurd (none (learnt_at g e) (owns_known e is))
-    goes_by None is q other there (inl owns) = (let k = known_by (at_port g q) owns in let clash : ◌≡◌ {A = Option Learnt} None (Some k.0) = sym is ∙ k.1 in absurd (cc))
-    goes_by None is q other there (inr none) = filter_in (λ p. not (same_port p entering)) q (facts.ports c.switch) other there
+        let its : (q, acl_rows d.lists) ≡ its_binding e = λ i. (port i, (sym (lists_is r later good.settled.rows good.settled.sound quiet d d_in) ∙ ap facts.lists port) i) in
+        filter_in (λ p. not (same_port p entering)) q (let_out facts headers (its_binding e ∷ [])) other
+        (map_in (λ (b : Listed). b.0) (q, acl_rows d.lists) (filter goes_out (its_binding e ∷ [])) (filter_in goes_out (q, acl_rows d.lists) (its_binding e ∷ []) out (inl its)))
+    goes_by (Some e) is d d_in other out there (inr none) = absurd (none (learnt_at g e) (owns_known e is))
+    goes_by None is d d_in other out there (inl owns) = (let k = known_by (place g d) owns in let clash : ◌≡◌ {A = Option Learnt} None (Some k.0) = sym is ∙ k.1 in absurd (cc))
+    goes_by None is d d_in other out there (inr none) =
+        filter_in (λ p. not (same_port p entering)) (d.port, d.vlan) (let_out facts headers (facts.ports c.switch)) other
+        (map_in (λ (b : Listed). b.0) ((d.port, d.vlan), acl_rows d.lists) (filter goes_out (facts.ports c.switch)) (filter_in goes_out ((d.port, d.vlan), acl_rows d.lists) (facts.ports c.switch) out there))
 
     its_inner : (carried : Bytes) → Carries bytes c.vlan carried → carried ≡ inner
     its_inner carried how = ap (λ (z : ℕ × Bytes). z.1) (same_carried (c.vlan, carried) (c.vlan, inner) (sym (read_back bytes carried c.vlan how) ∙ read_back bytes inner c.vlan carries))
+
+    -- a port has one pair of lists
+    one_pair : (d : built.Binding) → IsIn d (bindings r) → (x : Listed) → IsIn x (filter_map (port_by c.switch) (built.built r later)) → x.0 ≡ (d.port, d.vlan) → x.1 ≡ acl_rows d.lists
+    one_pair d d_in x is at =
+        let m = told_port r later quiet c.switch x is in
+        m.1 ∙ ap acl_rows (same_lists r later good.settled.rows good.settled.sound quiet m.0.of d m.0.there d_in (sym m.0.port_is ∙ ap (λ (p : Port). p.0) at) (sym m.0.vlan_is ∙ ap (λ (p : Port). p.1) at))
 
     delivered_elsewhere : (x : Binding) (out : Bytes) → Delivers (logical_of w) (place g c) bytes x out → IsIn (x, out) outs
     delivered_elsewhere x out (t, carried_inner, how, on, is) =
@@ -390,20 +472,24 @@ module _ (gateway : Gateway) (good : IsGood gateway.vtep.rows gateway.vtep.learn
         let its : t ≡ switch_of r c.switch = b.2 ∙ ap (switch_of r) (sym one) in
         let of : d.0.switch ≡ c.switch = names_are_rows r good.settled.rows good.settled.sound d.0 c d.1 c_in (sym d.2 ∙ its) in
         let q : Port = (d.0.port, d.0.vlan) in
-        let there : IsIn q (facts.ports c.switch) = is_ordered q (filter_map (port_by c.switch) (built.built r later)) (port_told r later quiet c.switch d.0 d.1 of) in
+        let listed : List Listed = filter_map (port_by c.switch) (built.built r later) in
+        let there : IsIn (q, acl_rows d.0.lists) (facts.ports c.switch) = is_ordered (q, acl_rows d.0.lists) listed (one_pair d.0 d.1) (port_told r later quiet c.switch d.0 d.1 of) in
+        let out_too : MayPass (logical_of w) Egress inner (place g d.0) = subst (λ (y : Bytes × Binding). MayPass (logical_of w) Egress y.0 y.1) (λ i. (same i, d.3 i)) on.let_out in
+        let lets : goes_out (q, acl_rows d.0.lists) ≡ true =
+        may_is r good.settled.rows good.settled.sound quiet headers Egress later d.0 d.1 ∙ so_passes r good.settled.rows good.settled.sound quiet w g gateway only refl inner Egress d.0 d.1 out_too in
         let other : same_port q entering ≡ false = false_by (same_port q entering) (λ e. on.elsewhere (d.3 ∙ ap (at_port g) (port_same q entering e))) in
         let owned : Owns (logical_of w) (switch_of r c.switch) (destination inner) (at_port g q) ⊎ ((d : Binding) → Owns (logical_of w) (switch_of r c.switch) (destination inner) d → ⊥) =
         subst (λ (y : Bytes × Bytes × Binding). Owns (logical_of w) y.0 (destination y.1) y.2 ⊎ ((d : Binding) → Owns (logical_of w) y.0 (destination y.1) d → ⊥)) (λ i. (its i, same i, d.3 i)) on.owned in
-        let kept : IsIn q others = goes_by known refl q (not_false (same_port q entering) other) there owned in
+        let kept : IsIn q others = goes_by known refl d.0 d.1 (not_false (same_port q entering) other) lets there owned in
         let all : IsIn q ports = subst (λ b. IsIn q (cond b [] others)) (sym away) kept in
         let entry : ◌≡◌ {A = Binding × Bytes} (as_out g inner q) (x, out) = λ i. (sym d.3 i, sym (is ∙ (λ j. tagged (d.3 j).vlan (same j))) i) in
         subst (λ (y : Binding × Bytes). IsIn y outs) entry (map_in (as_out g inner) q ports all)
 
-    by_test : (b : Bool) → itself ≡ b → (x : Binding) (out : Bytes) → IsIn (x, out) (map (as_out g inner) (cond b [] others)) → Delivers (logical_of w) (place g c) bytes x out
-    by_test true e x out is = absurd is
-    by_test false e x out is =
+    by_test : let_in ≡ true → (b : Bool) → itself ≡ b → (x : Binding) (out : Bytes) → IsIn (x, out) (map (as_out g inner) (cond b [] others)) → Delivers (logical_of w) (place g c) bytes x out
+    by_test open true e x out is = absurd is
+    by_test open false e x out is =
         let q = in_map (as_out g inner) (x, out) others is in
-        subst (λ (y : Binding × Bytes). Delivers (logical_of w) (place g c) bytes y.0 y.1) (sym q.2) (leaves_by e known refl q.0 q.1)
+        subst (λ (y : Binding × Bytes). Delivers (logical_of w) (place g c) bytes y.0 y.1) (sym q.2) (leaves_by open e known refl q.0 q.1)
 
     -- ---- what is learnt
 
@@ -428,8 +514,16 @@ module _ (gateway : Gateway) (good : IsGood gateway.vtep.rows gateway.vtep.learn
         subst (λ (x : Bytes × Bytes). Teaches (logical_of w) (logical_of (record w { gateways = after })) x.0 (place g c) (source x.1) seen.full) (λ i. (sym (b.2 ∙ ap (switch_of r) (sym one)) i, sym same i))
         (teaches w g gateway only c v.clock (source inner) (source_group_is bytes inner c.vlan carries are) seen taught after only_after one_row)
 
-    delivered : IsDelivered w (record w { gateways = after }) (place g c) bytes written
-    delivered =
+    -- the lists say the same of the frame
+    lets_in : (b : Bool) → let_in ≡ not b → (carried : Bytes) → Carries bytes c.vlan carried → (b ≡ false) ↔ MayPass (logical_of w) Ingress carried (place g c)
+    lets_in b is carried how =
+        let same : carried ≡ inner = its_inner carried how in (
+          λ off. subst (λ z. MayPass (logical_of w) Ingress z (place g c)) (sym same) (passes_so r good.settled.rows good.settled.sound quiet w g gateway only refl inner Ingress c c_in (is ∙ ap not off)),
+          λ may. not_true b (sym is ∙ so_passes r good.settled.rows good.settled.sound quiet w g gateway only refl inner Ingress c c_in (subst (λ z. MayPass (logical_of w) Ingress z (place g c)) same may)),
+        )
+
+    delivered : let_in ≡ true → IsDelivered w (record w { gateways = after }) (place g c) bytes written
+    delivered open =
         let order = outs_in_order g inner ports go_sorted in
         record {
           before = gateway;
@@ -437,17 +531,57 @@ module _ (gateway : Gateway) (good : IsGood gateway.vtep.rows gateway.vtep.learn
           was = at;
           is = at_after;
           full = seen.full;
+          denied = false;
           outs = outs;
           written_so = refl;
           in_order = order;
           each_once = once_in_order outs order;
-          exact = λ x out. (λ is. by_test itself refl x out is, λ d. delivered_elsewhere x out d);
-          learns = learns;
+          lets_in = lets_in false open;
+          exact = λ x out. (λ is. by_test open itself refl x out is, λ d. delivered_elsewhere x out d);
+          stays = λ e. absurd (cc);
+          learns = λ e. learns;
         }
 
     -- of the binding that the fabric has
+    -- nothing changes where the lists let it not in
+    unchanged : as_before ≡ gs
+    unchanged =
+        maps.same_map nat_list_cmp_total exact_bytes as_before gs (λ q. maps.get-insert nat_list_cmp_total gs g gateway q ∙ by q (eq_by_cmp bytes_cmp q g) refl)
+      where
+        by : (q : Bytes) (b : Bool) → eq_by_cmp bytes_cmp q g ≡ b → cond b (Some gateway) (find bytes_cmp q gs.list) ≡ find bytes_cmp q gs.list
+        by q true tie = sym (ap (find bytes_cmp q) only ∙ ap (λ b. cond b (Some gateway) None) tie)
+        by q false apart = refl
+
+    at_before : maps.get as_before g ≡ Some gateway
+    at_before = ap (λ (m : Gateways). maps.get m g) unchanged ∙ at
+
+    kept_away : let_in ≡ false → IsDelivered w (record w { gateways = as_before }) (place g c) bytes (output.Dropped g reason.Denied ∷ [])
+    kept_away shut = record {
+      before = gateway;
+      after = gateway;
+      was = at;
+      is = at_before;
+      full = false;
+      denied = true;
+      outs = [];
+      written_so = ap (λ sends. messages g sends ++ (output.Dropped g reason.Denied ∷ [])) (nothing_told r r (no_changes r) v.monitors []);
+      in_order = tt;
+      each_once = tt;
+      lets_in = lets_in true shut;
+      exact = λ x out. (λ is. absurd is, λ d. never d);
+      stays = λ e. ap (λ (m : Gateways). record w { gateways = m }) unchanged;
+      learns = λ e. absurd (cc);
+    }
+      where
+        never : {x : Binding} {out : Bytes} → Delivers (logical_of w) (place g c) bytes x out → ⊥
+        never (t, carried, how, on, is) = (let off : true ≡ false = (lets_in true shut carried how).1 on.let_in in cc)
+
     pub delivers : (b : Binding) → b ≡ place g c → IsRun w b bytes
-    delivers b is = subst (λ (x : Binding). IsRun w x bytes) (sym is) (record { world = record w { gateways = after }; output = written; runs = run_is; delivered = delivered })
+    delivers b is = subst (λ (x : Binding). IsRun w x bytes) (sym is) (by let_in refl)
+      where
+        by : (t : Bool) → let_in ≡ t → IsRun w (place g c) bytes
+        by true open = record { world = record w { gateways = after }; output = written; runs = run_is open; delivered = delivered open }
+        by false shut = record { world = record w { gateways = as_before }; output = output.Dropped g reason.Denied ∷ []; runs = denied_run shut; delivered = kept_away shut }
 
 -- ---- every state that lines lead to
 

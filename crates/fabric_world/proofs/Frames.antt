@@ -91,8 +91,8 @@ module _ (bytes inner : Bytes) (vlan : ℕ) (carries : Carries bytes vlan inner)
   second_bytes = (split_bytes (take 6 (drop 6 inner)) (drop 6 (drop 6 inner)) (subst AreBytes (sym (take-append-drop 6 (drop 6 inner))) behind)).0
 
   -- addresses of one number are the same bytes
-  pub to_itself : (hop.destination inner == hop.source inner) ≡ true → destination inner ≡ source inner
-  to_itself e = (be_apart (destination inner) (source inner) 0 0 (first_six ∙ sym second_six) first_bytes second_bytes (number_same (hop.destination inner) (hop.source inner) e)).1
+  pub to_itself : (be (destination inner) == hop.source inner) ≡ true → destination inner ≡ source inner
+  to_itself e = (be_apart (destination inner) (source inner) 0 0 (first_six ∙ sym second_six) first_bytes second_bytes (number_same (be (destination inner)) (hop.source inner) e)).1
 
   -- whether an address is a group's, by its number and by its bytes
   pub group_is : addresses.is_group (be (destination inner)) ≡ is_group (destination inner)
@@ -108,9 +108,9 @@ module _ (bytes inner : Bytes) (vlan : ℕ) (carries : Carries bytes vlan inner)
       below : (n : ℕ) → n < 2 ^ 48 → nat_lt n (2 ^ 48) ≡ true
       below n small = grind (arith, nat_tests, small)
 
-pub to_another : (inner : Bytes) → (hop.destination inner == hop.source inner) ≡ false → destination inner ≡ source inner → ⊥
+pub to_another : (inner : Bytes) → (be (destination inner) == hop.source inner) ≡ false → destination inner ≡ source inner → ⊥
 to_another inner e same =
-    let numbers : hop.destination inner ≡ hop.source inner = ap be same in
-    let equal : (hop.destination inner == hop.source inner) ≡ true = ap (λ n. hop.destination inner == n) (sym numbers) ∙ number_itself (hop.destination inner) in
+    let numbers : be (destination inner) ≡ hop.source inner = ap be same in
+    let equal : (be (destination inner) == hop.source inner) ≡ true = ap (λ n. be (destination inner) == n) (sym numbers) ∙ number_itself (be (destination inner)) in
     let clash : true ≡ false = sym equal ∙ e in
     cc

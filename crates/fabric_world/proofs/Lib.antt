@@ -6,6 +6,7 @@ pub mod LineRanges
 pub mod Reached
 pub mod Switches
 pub mod Facts
+pub mod Passing
 pub mod Quiet
 pub mod SameRows
 pub mod Taught

@@ -1,5 +1,5 @@
 -- The bindings of a switch in order, but for the one at which a frame enters.
-use Rattle.std.proofs.Common.{◌≡◌, inl, inr, Bool, true, false, not, cond, T, List, [], ◌∷◌, map, Some, refl, sym, ap, ◌∙◌, subst}
+use Rattle.std.proofs.Common.{◌≡◌, inl, inr, ℕ, Bool, true, false, not, cond, T, List, [], ◌∷◌, map, Some, refl, sym, ap, ◌∙◌, subst}
 use Rattle.std.specs.List.{filter}
 use Rattle.std.specs.Ordering.{nat_cmp, eq_by_cmp, is_lt, ordering_then}
 use Rattle.std.specs.Cmp.{IsTotalOrder, nat_cmp_total, eq_by_cmp_equiv}
@@ -18,8 +18,7 @@ use Rattle.vtep_rows.proofs.Entries.{t_first, t_second}
 use Rattle.ether_frames.specs.Frames.{tagged}
 use Rattle.forward_program.specs.Built.{IsIn, AreApart}
 use Rattle.forward_program.specs.Joins.{Port}
-use Rattle.forward_program.specs.Hop.{same_port, but, in_order}
-use Rattle.forward_program.proofs.InLists.{in_map, map_in}
+use Rattle.forward_program.specs.Hop.{Listed, same_port, but, in_order}
 use Rattle.forward_program.proofs.MapLists.{in_get, get_in, found_in}
 use Rattle.fabric_world.specs.Intentions.{binding_cmp}
 use Rattle.fabric_world.specs.Delivery.{IsBelow, InOrder}
@@ -30,34 +29,30 @@ place_total = then_total (on_total (λ (p : Port). p.0) nat_list_cmp_total) (on_
 place_exact : IsAntisymmetric place_cmp
 place_exact = exact_pairs (slice_cmp nat_cmp) nat_cmp exact_bytes exact_unsigned
 
-abbrev Marked : Type 0
-Marked = Port × Unit {0}
+abbrev Lists : Type 0
+Lists = List ℕ
 
-abbrev marked : List Port → List Marked
-marked ps = map (λ (p : Port). (p, tt {0})) ps
-
-in_find : (q : Port) (es : List Marked) → IsIn (q, tt) es → (y : Unit {0}) × (find place_cmp q es ≡ Some y)
+in_find : (q : Listed) (es : List Listed) → IsIn q es → (y : Lists) × (find place_cmp q.0 es ≡ Some y)
 in_find q [] h = absurd h
 in_find q (e ∷ es) (inl is) =
-    subst (λ (d : Marked). (y : Unit {0}) × (cond (eq_by_cmp place_cmp q d.0) (Some d.1) (find place_cmp q es) ≡ Some y)) is (tt, ap (λ b. cond b (Some tt) (find place_cmp q es)) ((eq_by_cmp_equiv place_total).refl q))
+    subst (λ (d : Listed). (y : Lists) × (cond (eq_by_cmp place_cmp q.0 d.0) (Some d.1) (find place_cmp q.0 es) ≡ Some y)) is (q.1, ap (λ b. cond b (Some q.1) (find place_cmp q.0 es)) ((eq_by_cmp_equiv place_total).refl q.0))
 in_find q (e ∷ es) (inr h) =
     let rest = in_find q es h in
-    elim (eq_by_cmp place_cmp q e.0) as (λ b. (y : Unit {0}) × (cond b (Some e.1) (find place_cmp q es) ≡ Some y)) [ true ↦ (e.1, refl) | false ↦ rest ]
+    elim (eq_by_cmp place_cmp q.0 e.0) as (λ b. (y : Lists) × (cond b (Some e.1) (find place_cmp q.0 es) ≡ Some y)) [ true ↦ (e.1, refl) | false ↦ rest ]
 
 -- in order are those that are there
-pub ordered_is : (q : Port) (ps : List Port) → IsIn q (in_order ps) → IsIn q ps
-ordered_is q ps h =
-    let m : maps.Map place_cmp (Unit {0}) = maps.of_list {R = place_cmp} (marked ps) in
-    let e = in_map (λ (e : Marked). e.0) q m.list h in
-    let at : maps.get m e.0.0 ≡ Some e.0.1 = in_get place_total m e.0.0 e.0.1 e.1 in
-    let p = in_map (λ (p : Port). (p, tt {0})) e.0 ps (found_in place_exact e.0.0 e.0.1 (marked ps) (sym (maps.get-of_list place_total (marked ps) e.0.0) ∙ at)) in
-    subst (λ (x : Port). IsIn x ps) (sym (e.2 ∙ ap (λ (x : Marked). x.0) p.2)) p.1
+pub ordered_is : (q : Listed) (bs : List Listed) → IsIn q (in_order bs) → IsIn q bs
+ordered_is q bs h =
+    let m : maps.Map place_cmp Lists = maps.of_list {R = place_cmp} bs in
+    found_in place_exact q.0 q.1 bs (sym (maps.get-of_list place_total bs q.0) ∙ in_get place_total m q.0 q.1 h)
 
-pub is_ordered : (q : Port) (ps : List Port) → IsIn q ps → IsIn q (in_order ps)
-is_ordered q ps h =
-    let m : maps.Map place_cmp (Unit {0}) = maps.of_list {R = place_cmp} (marked ps) in
-    let f = in_find q (marked ps) (map_in (λ (p : Port). (p, tt {0})) q ps h) in
-    map_in (λ (e : Marked). e.0) (q, f.0) m.list (get_in place_exact m q f.0 (maps.get-of_list place_total (marked ps) q ∙ f.1))
+-- and each of them, where a port has one pair of lists
+pub is_ordered : (q : Listed) (bs : List Listed) → ((x : Listed) → IsIn x bs → x.0 ≡ q.0 → x.1 ≡ q.1) → IsIn q bs → IsIn q (in_order bs)
+is_ordered q bs one h =
+    let m : maps.Map place_cmp Lists = maps.of_list {R = place_cmp} bs in
+    let f = in_find q bs h in
+    let same : f.0 ≡ q.1 = one (q.0, f.0) (found_in place_exact q.0 f.0 bs f.1) refl in
+    subst (λ ls. IsIn (q.0, ls) m.list) same (get_in place_exact m q.0 f.0 (maps.get-of_list place_total bs q.0 ∙ f.1))
 
 -- ---- order
 
@@ -74,16 +69,29 @@ is_less Less t = refl
 is_less Equal t = absurd t
 is_less Greater t = absurd t
 
-below_keys : (p : Port) (es : List Marked) → T (below_all place_cmp p es) → AreBelow p (map (λ (e : Marked). e.0) es)
+abbrev pub ports_of : List Listed → List Port
+ports_of bs = map (λ b. b.0) bs
+
+below_keys : (p : Port) (es : List Listed) → T (below_all place_cmp p es) → AreBelow p (ports_of es)
 below_keys p [] t = tt
 below_keys p (e ∷ es) t = (is_less (place_cmp p e.0) (t_first (is_lt (place_cmp p e.0)) (below_all place_cmp p es) t), below_keys p es (t_second (is_lt (place_cmp p e.0)) (below_all place_cmp p es) t))
 
-sorted_keys : (es : List Marked) → T (is_sorted place_cmp es) → AreSorted (map (λ (e : Marked). e.0) es)
+sorted_keys : (es : List Listed) → T (is_sorted place_cmp es) → AreSorted (ports_of es)
 sorted_keys [] t = tt
 sorted_keys (e ∷ es) t = (below_keys e.0 es (t_first (below_all place_cmp e.0 es) (is_sorted place_cmp es) t), sorted_keys es (t_second (below_all place_cmp e.0 es) (is_sorted place_cmp es) t))
 
-pub ordered_sorted : (ps : List Port) → AreSorted (in_order ps)
-ordered_sorted ps = let m : maps.Map place_cmp (Unit {0}) = maps.of_list {R = place_cmp} (marked ps) in sorted_keys m.list m.sorted
+pub ordered_sorted : (bs : List Listed) → AreSorted (ports_of (in_order bs))
+ordered_sorted bs = let m : maps.Map place_cmp Lists = maps.of_list {R = place_cmp} bs in sorted_keys m.list m.sorted
+
+module _ (test : Listed → Bool) where
+  below_let : (p : Port) (bs : List Listed) → AreBelow p (ports_of bs) → AreBelow p (ports_of (filter test bs))
+  below_let p [] h = tt
+  below_let p (b ∷ bs) h = elim (test b) as (λ t. AreBelow p (ports_of (cond t (b ∷ filter test bs) (filter test bs)))) [ true ↦ (h.0, below_let p bs h.1) | false ↦ below_let p bs h.1 ]
+
+  -- those that are let out stay in order
+  pub let_sorted : (bs : List Listed) → AreSorted (ports_of bs) → AreSorted (ports_of (filter test bs))
+  let_sorted [] h = tt
+  let_sorted (b ∷ bs) h = elim (test b) as (λ t. AreSorted (ports_of (cond t (b ∷ filter test bs) (filter test bs)))) [ true ↦ (below_let b.0 bs h.0, let_sorted bs h.1) | false ↦ let_sorted bs h.1 ]
 
 module _ (test : Port → Bool) where
   below_filter : (p : Port) (qs : List Port) → AreBelow p qs → AreBelow p (filter test qs)

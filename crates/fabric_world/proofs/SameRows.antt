@@ -9,9 +9,9 @@ use Rattle.vtep_base.specs.declared.Mode.TheVariants.{Service}
 use Rattle.ovsdb_values.specs.declared.datums.Datum.{Datum}
 use Rattle.ovsdb_values.specs.Sets.{same_datum}
 use Rattle.ovsdb_values.specs.Exact.{same_datum_exact}
-use Rattle.vtep_schema.specs.declared.Table.TheVariants.{PhysicalSwitch, PhysicalPort, LogicalSwitch, UcastMacsRemote, McastMacsRemote, PhysicalLocatorSet, PhysicalLocator}
+use Rattle.vtep_schema.specs.declared.Table.TheVariants.{PhysicalSwitch, PhysicalPort, LogicalSwitch, UcastMacsRemote, McastMacsRemote, PhysicalLocatorSet, PhysicalLocator, Acl, AclEntry}
 use Rattle.vtep_schema.specs.declared.Column.{Column}
-use Rattle.vtep_schema.specs.declared.Column.TheVariants.{SwitchTunnelIps, LogicalTunnelKey, SetLocators, LocatorDstIp}
+use Rattle.vtep_schema.specs.declared.Column.TheVariants.{SwitchTunnelIps, LogicalTunnelKey, SetLocators, LocatorDstIp, AclEntries}
 use Rattle.vtep_schema.specs.Orders.{column_total}
 use Rattle.vtep_schema.specs.Tables.{same_column, same_table}
 use Rattle.vtep_rows.specs.declared.differences.RowChange.{RowChange}
@@ -29,7 +29,9 @@ use Rattle.forward_program.specs.declared.readings.Group.{Group}
 use Rattle.forward_program.specs.declared.facts.Fact.TheVariants as fact
 use Rattle.forward_program.specs.declared.facts.Place.TheVariants.{There}
 use Rattle.forward_program.specs.Readings.{ip_at, own_ip, mode_of, remote_of, group_of, locator_address, other_address, set_locators}
-use Rattle.forward_program.specs.Built.{Binding, bindings_of, bindings, is_bound, if_bound, bind_fact, vni_fact, remote_fact, unlearnt_fact, learnt_fact, mode_at, set_addresses, flood_to, flood_fact, built}
+use Rattle.acl_rules.specs.Permits.{in_order}
+use Rattle.forward_program.specs.Acls.{entry_of, entry_at, entries_at}
+use Rattle.forward_program.specs.Built.{Binding, bindings_of, bindings, is_bound, if_bound, names_acl, is_listed, acl_fact, bind_fact, vni_fact, remote_fact, unlearnt_fact, learnt_fact, mode_at, set_addresses, flood_to, flood_fact, built}
 use Rattle.local_tables.proofs.Same.{SameTable, same_rows}
 
 pub record IsSame (a b : Rows) : Type 0 where
@@ -40,9 +42,11 @@ pub record IsSame (a b : Rows) : Type 0 where
   pub floods : SameTable McastMacsRemote a b
   pub sets : SameTable PhysicalLocatorSet a b
   pub locators : SameTable PhysicalLocator a b
+  pub acls : SameTable Acl a b
+  pub entries : SameTable AclEntry a b
 
 pub all_same : (r : Rows) → IsSame r r
-all_same r = record { gateways = λ i. refl; ports = λ i. refl; switches = λ i. refl; remotes = λ i. refl; floods = λ i. refl; sets = λ i. refl; locators = λ i. refl }
+all_same r = record { gateways = λ i. refl; ports = λ i. refl; switches = λ i. refl; remotes = λ i. refl; floods = λ i. refl; sets = λ i. refl; locators = λ i. refl; acls = λ i. refl; entries = λ i. refl }
 
 module _ (a b : Rows) (same : IsSame a b) where
   own_same : own_ip a ≡ own_ip b
@@ -78,6 +82,18 @@ module _ (a b : Rows) (same : IsSame a b) where
   flood_same : (g : Group) → flood_fact a g ≡ flood_fact b g
   flood_same g = λ i. if_bound (bound_same g.switch i) (flood_to g.switch g.group (targets (mode_same g.switch i) (addresses_same g.set i)))
 
+  entry_same : (id : ℕ) → entry_at a id ≡ entry_at b id
+  entry_same id = ap (option_map (entry_of id)) (same.entries id)
+
+  pub entries_same : (row : Contents) → entries_at a row ≡ entries_at b row
+  entries_same row = λ i. in_order (filter_map (λ id. entry_same id i) (ids_at row AclEntries))
+
+  listed_same : (acl : ℕ) → is_listed a acl ≡ is_listed b acl
+  listed_same acl = ap (list_any (λ (c : Binding). names_acl acl c.lists)) bindings_same
+
+  acl_same : (e : ℕ × Contents) → acl_fact a e ≡ acl_fact b e
+  acl_same e = λ i. cond (listed_same e.0 i) (Some (fact.Acl e.0 (entries_same e.1 i))) None
+
   pub built_same : (l : List Learnt) → built a l ≡ built b l
   built_same l = λ i.
       filter_map (λ e. vni_same e i) (same_rows LogicalSwitch a b same.switches i)
@@ -85,6 +101,7 @@ module _ (a b : Rows) (same : IsSame a b) where
       ++ map learnt_fact l
       ++ filter_map (λ (e : ℕ × Contents). option_and_then (λ x. unlearnt_same l x i) (remote_of e.1)) (same_rows UcastMacsRemote a b same.remotes i)
       ++ filter_map (λ (e : ℕ × Contents). option_and_then (λ g. flood_same g i) (group_of e.1)) (same_rows McastMacsRemote a b same.floods i)
+      ++ filter_map (λ e. acl_same e i) (same_rows Acl a b same.acls i)
 
 -- ---- rows do not differ from themselves
 

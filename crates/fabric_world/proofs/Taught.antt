@@ -8,7 +8,7 @@ use Rattle.vtep_base.specs.Reading.{Bytes}
 use Rattle.vtep_base.specs.Addresses.{is_group}
 use Rattle.vtep_base.specs.Maps as maps
 use Rattle.vtep_schema.specs.declared.Table.{Table}
-use Rattle.vtep_schema.specs.declared.Table.TheVariants.{PhysicalSwitch, PhysicalPort, LogicalSwitch, UcastMacsLocal, UcastMacsRemote, McastMacsRemote, PhysicalLocatorSet, PhysicalLocator}
+use Rattle.vtep_schema.specs.declared.Table.TheVariants.{PhysicalSwitch, PhysicalPort, LogicalSwitch, UcastMacsLocal, UcastMacsRemote, McastMacsRemote, PhysicalLocatorSet, PhysicalLocator, Acl, AclEntry}
 use Rattle.vtep_rows.specs.declared.soundness.Rule.{Rule}
 use Rattle.vtep_rows.specs.Row.{Contents}
 use Rattle.vtep_rows.specs.Rows.{Rows, key_cmp, row_at, next_id, inserted, last_number}
@@ -89,6 +89,8 @@ one_address r row at = record {
   floods = beside r row McastMacsRemote (λ i. refl) at;
   sets = beside r row PhysicalLocatorSet (λ i. refl) at;
   locators = beside r row PhysicalLocator (λ i. refl) at;
+  acls = beside r row Acl (λ i. refl) at;
+  entries = beside r row AclEntry (λ i. refl) at;
 }
 
 -- ---- the source of a frame

@@ -15,15 +15,15 @@ use Rattle.mac_learning.specs.declared.Learnt.{Learnt}
 use Rattle.mac_learning.specs.Learning.{same_address, entry, found, put}
 use Rattle.mac_learning.proofs.KeptLemmas.{of_address}
 use Rattle.forward_program.specs.Built as built
-use Rattle.forward_program.specs.Built.{IsIn, bindings}
+use Rattle.forward_program.specs.Built.{IsIn, acl_rows, bindings}
 use Rattle.forward_program.proofs.HostLaws.{entry_found}
 use Rattle.vtep_gateway.specs.Gateway.{Gateway}
 use Rattle.vtep_gateway.specs.Learning.{Seen}
 use Rattle.fabric_world.specs.Happenings.{Gateways}
 use Rattle.fabric_world.specs.World.{World}
-use Rattle.fabric_world.specs.Logical.{logical_of, Owns, Teaches, switch_of, place, members, learnt_at, owners, is_group}
+use Rattle.fabric_world.specs.Logical.{logical_of, Owns, Teaches, switch_of, place, members, learnt_at, owners, entries_of, lists, is_group}
 use Rattle.fabric_world.proofs.Alone.{Owner, in_owner, owner_in}
-use Rattle.fabric_world.proofs.SameRows.{bindings_same}
+use Rattle.fabric_world.proofs.SameRows.{bindings_same, entries_same}
 use Rattle.fabric_world.proofs.Taught.{IsTaught}
 
 -- ---- an entry that is put into the list
@@ -89,6 +89,15 @@ module _ (w : World) (g : Bytes) (gateway : Gateway) (only : w.gateways.list ≡
         ∙ (λ i. map (λ (d : built.Binding). (switch_same d.switch i, place g d)) (bindings_same seen.vtep.rows r taught.same i) ++ [])
         ∙ sym (ap (flat_map members) only)
 
+    entries_stay : (acl : ℕ) → entries_of seen.vtep.rows acl ≡ entries_of r acl
+    entries_stay acl = λ i. unwrap_or (option_map (λ row. entries_same seen.vtep.rows r taught.same row i) (taught.same.acls acl i)) []
+
+    lists_stay : (logical_of w2).lists ≡ (logical_of w).lists
+    lists_stay =
+        ap (flat_map lists) only_after
+        ∙ (λ i. flat_map (λ (d : built.Binding). map (λ acl. (place g d, entries_stay acl i)) (acl_rows d.lists)) (bindings_same seen.vtep.rows r taught.same i) ++ [])
+        ∙ sym (ap (flat_map lists) only)
+
     owners_stay : later ≡ l → (logical_of w2).owners ≡ (logical_of w).owners
     owners_stay same =
         ap (flat_map owners) only_after
@@ -150,6 +159,7 @@ module _ (w : World) (g : Bytes) (gateway : Gateway) (only : w.gateways.list ≡
     pub teaches : Teaches (logical_of w) (logical_of w2) s (place g c) address seen.full
     teaches = record {
       bindings = bindings_stay;
+      lists = lists_stay;
       nothing = λ why. owners_stay (taught.nothing (elim why [ inl group ↦ inl (group_is ∙ group) | inr full ↦ inr full ]));
       there = λ alone room. at_source (taught.learnt (group_is ∙ alone) room) alone;
       others = others (addresses.is_group (be address)) refl seen.full refl;
