@@ -19,6 +19,9 @@ use std::alloc::Global;
 use transact_profile::{finish, read_ops, transact_on};
 use vtep_base::{Ledger, List, OutOfMemory, Steps, Word};
 
+/// What a method gives: its result, or the word of refusal (RFC 7047, section 4.1).
+pub(crate) type Called = Result<Value, Word>;
+
 /// The methods that are known.
 #[derive(Clone, Copy)]
 pub(crate) enum Method {
@@ -69,7 +72,7 @@ fn databases(alloc: Global) -> Result<Value, OutOfMemory>
 }
 
 /// The schema, for those who name the database.
-fn schema_in(alloc: Global, params: &Value) -> Result<Result<Value, Word>, OutOfMemory>
+fn schema_in(alloc: Global, params: &Value) -> Result<Called, OutOfMemory>
     ensures { IfOk result (λ r. seen r ≡ schema_in (view params.now)) }
 {
     match in_database(params) {
@@ -127,7 +130,7 @@ impl Vtep {
         fib: &mut Fib<L>,
         steps: &mut Steps<L>,
         sends: &mut List<Outgoing>,
-    ) -> Result<Result<Value, Word>, OutOfMemory>
+    ) -> Result<Called, OutOfMemory>
         requires good { IsGood self.old.rows self.old.learned }
         requires fib { fib.old ≡ fib_of self.old.rows self.old.learned }
         ensures left { OnOk result (self.new
@@ -156,7 +159,7 @@ impl Vtep {
         fib: &mut Fib<L>,
         steps: &mut Steps<L>,
         sends: &mut List<Outgoing>,
-    ) -> Result<Result<Value, Word>, OutOfMemory>
+    ) -> Result<Called, OutOfMemory>
         requires good { IsGood self.old.rows self.old.learned }
         requires fib { fib.old ≡ fib_of self.old.rows self.old.learned }
         requires plain { has_float (view params) ≡ false }

@@ -8,7 +8,7 @@ ghost use Rattle.monitor_updates.specs.Updates.{opening_json};
 ghost use Rattle.vtep_gateway.specs.Methods.{monitor_for, monitor_in, cancel_in, seen};
 ghost use Rattle.vtep_gateway.specs.Monitors.{asks, one_of, others, left_by};
 
-use crate::methods::in_database;
+use crate::methods::{Called, in_database};
 use crate::open_monitors::{OpenMonitor, is_free, is_open, name_text};
 use crate::vtep::Vtep;
 use monitor_updates::{Monitor, MonitorFault};
@@ -91,7 +91,7 @@ impl Vtep {
         &mut self,
         session: u32,
         params: &Value,
-    ) -> Result<Result<Value, Word>, OutOfMemory>
+    ) -> Result<Called, OutOfMemory>
         requires plain { has_float (view params.now) ≡ false }
         ensures left { IfOk result (λ _. self.new
             ≡ (monitor_in self.old session (view params.now)).vtep) }
@@ -122,7 +122,7 @@ impl Vtep {
         &mut self,
         session: u32,
         params: &Value,
-    ) -> Result<Result<Value, Word>, OutOfMemory>
+    ) -> Result<Called, OutOfMemory>
         requires plain { has_float (view params.now) ≡ false }
         ensures left { IfOk result (λ _. self.new
             ≡ (cancel_in self.old session (view params.now)).vtep) }
