@@ -13,7 +13,7 @@ ghost use Rattle.vtep_gateway.specs.Ready.{fib_of};
 ghost use Rattle.vtep_gateway.specs.Sessions.{response, outgoing, take, take_all};
 
 use crate::Outgoing;
-use crate::methods::method_of;
+use crate::methods::{Called, method_of};
 use crate::vtep::Vtep;
 use forward_program::Fib;
 use rpc_framing::{Framer, Framing, Message, NextFault, print};
@@ -29,7 +29,7 @@ fn text_of(alloc: Global, word: Word) -> Result<String, OutOfMemory>
 }
 
 /// The response to a request: its result, or the word of refusal.
-fn response(alloc: Global, outcome: Result<Value, Word>, id: Value) -> Result<Message, OutOfMemory>
+fn response(alloc: Global, outcome: Called, id: Value) -> Result<Message, OutOfMemory>
     requires plain { IfOk outcome (λ v. has_float (view v) ≡ false) }
     requires plain_id { has_float (view id) ≡ false }
     ensures value { IfOk result (λ m. said m ≡ response (seen outcome) (view id)) }
@@ -63,7 +63,7 @@ pub(crate) fn sent(alloc: Global, session: u32, message: &Message) -> Result<Out
 fn reply(
     alloc: Global,
     session: u32,
-    outcome: Result<Value, Word>,
+    outcome: Called,
     id: Value,
 ) -> Result<Outgoing, OutOfMemory>
     requires plain { IfOk outcome (λ v. has_float (view v) ≡ false) }
