@@ -15,7 +15,7 @@ use Rattle.mac_learning.specs.Learning.{is_of, same_address, same_place, IsOnce,
 use Rattle.mac_learning.proofs.KeptLemmas.{of_address}
 use Rattle.forward_program.specs.Built.{IsIn}
 use Rattle.forward_program.specs.Hosts.{host, port_of, learnt_place, with_places}
-use Rattle.forward_program.specs.Shown.{rows_shown, shown}
+use Rattle.forward_program.specs.Shown.{rows_shown, with_acls, shown}
 use Rattle.forward_program.specs.Follows.{learnt_address, AreMoved}
 use Rattle.forward_program.proofs.Unique.{bytes_same}
 use Rattle.local_tables.specs.Following.{without_all}
@@ -134,4 +134,4 @@ module _ (new : Learnt) where
 
   -- an address that is seen where it was shows nothing else
   pub shown_same : (r : Rows) (l : List Learnt) (e : Learnt) → found new.switch new.mac l ≡ Some e → same_place e new ≡ true → shown r (put new l) ≡ shown r l
-  shown_same r l e h same = ap (with_places (rows_shown r)) (places_same l e h same)
+  shown_same r l e h same = ap (with_places (with_acls r (rows_shown r))) (places_same l e h same)
