@@ -1,12 +1,13 @@
 -- The entries that a row of ACL names: few, and each once.
-use Rattle.std.proofs.Common.{◌≡◌, ◌≤◌, inl, inr, ℕ, Bool, true, false, nat_eq, nat_le, List, [], ◌∷◌, ◌++◌, map, length, Option, Some, None, refl, sym, ap, ◌∙◌, subst, arith, IsPermutation}
-use Rattle.std.specs.List.{filter_map, cons_option, IsDistinct, AllByRecursion}
+use Rattle.std.proofs.Common.{◌≡◌, ◌≤◌, inl, inr, ℕ, Bool, true, false, nat_eq, nat_le, List, [], ◌∷◌, ◌++◌, ◌||◌, map, length, drop, append-nil, Option, Some, None, refl, sym, ap, ◌∙◌, subst, arith, IsPermutation}
+use Rattle.std.specs.List.{list_any, filter_map, cons_option, IsDistinct, AllByRecursion}
 use Rattle.std.specs.List.Sorted.{IsStrictlySortedBy}
-use Rattle.std.specs.Option.{option_and_then, option_map}
+use Rattle.std.specs.Option.{option_and_then, option_map, option_to_list}
 use Rattle.std.specs.Ordering.{nat_cmp}
 use Rattle.std.specs.declared.cmp.Ordering.TheVariants.{Less, Equal}
 use Rattle.std.specs.Cmp.{Equal-is, eq_by_cmp_equiv}
 use Rattle.std.proofs.lemmas.Bool.Decides.{nat_tests}
+use Rattle.std.proofs.lemmas.List.{drop_all}
 use Rattle.std.proofs.lemmas.List.Sorted.{length_permutation}
 use Rattle.ovsdb_values.specs.Atoms.{atom_cmp, atom_total}
 use Rattle.ovsdb_values.specs.declared.atoms.Atom.{Atom}
@@ -22,11 +23,27 @@ use Rattle.forward_program.proofs.Columns.{atoms_fit}
 
 pub picked_twice : {A B C : Type 0} (f : B → Option C) (g : A → Option B) (xs : List A) → filter_map (λ x. option_and_then f (g x)) xs ≡ filter_map f (filter_map g xs)
 picked_twice f g [] = refl
-picked_twice f g (x ∷ xs) = by (g x) (picked_twice f g xs)
+picked_twice {A} {B} f g (x ∷ xs) = by (g x) (picked_twice f g xs)
   where
     by : (o : Option B) → filter_map (λ y. option_and_then f (g y)) xs ≡ filter_map f (filter_map g xs) → cons_option (option_and_then f o) (filter_map (λ y. option_and_then f (g y)) xs) ≡ filter_map f (cons_option o (filter_map g xs))
     by None e = e
     by (Some y) e = ap (cons_option (f y)) e
+
+-- once all are gone through
+pub all_done : {A B : Type 0} (f : A → Option B) (done : List B) (xs : List A) (i : ℕ) → length xs ≤ i → done ++ filter_map f (drop i xs) ≡ filter_map f xs → done ≡ filter_map f xs
+all_done f done xs i le h = sym (append-nil done) ∙ ap (λ ys. done ++ filter_map f ys) (sym (drop_all i xs le)) ∙ h
+
+pub any_picked : {A B : Type 0} (p : B → Bool) (f : A → Option B) (xs : List A) → list_any (λ x. list_any p (option_to_list (f x))) xs ≡ list_any p (filter_map f xs)
+any_picked p f [] = refl
+any_picked {A} {B} p f (x ∷ xs) = by (f x) (any_picked p f xs)
+  where
+    of_one : (b c d : Bool) → c ≡ d → ((b || false) || c) ≡ (b || d)
+    of_one true c d e = refl
+    of_one false c d e = e
+
+    by : (o : Option B) → list_any (λ y. list_any p (option_to_list (f y))) xs ≡ list_any p (filter_map f xs) → (list_any p (option_to_list o) || list_any (λ y. list_any p (option_to_list (f y))) xs) ≡ list_any p (cons_option o (filter_map f xs))
+    by None e = e
+    by (Some y) e = of_one (p y) (list_any (λ z. list_any p (option_to_list (f z))) xs) (list_any p (filter_map f xs)) e
 
 -- an ACL has few entries
 few_entries : (row : Contents) (xs : List Atom) → is_row row ≡ true → xs ≡ atoms_at row AclEntries → length xs ≤ 64

@@ -1,10 +1,11 @@
 -- Once the ACLs are followed that a change touches, each holds what its rows say after it.
-use Rattle.std.proofs.Common.{◌≡◌, ◌⊎◌, inl, inr, ℕ, Bool, true, false, cond, ◌||◌, List, [], ◌∷◌, map, Option, Some, None, refl, sym, ap, ◌∙◌, subst, true≢false}
+use Rattle.std.proofs.Common.{◌≡◌, ◌⊎◌, ◌+◌, ◌<◌, inl, inr, ℕ, Bool, true, false, cond, ◌||◌, List, [], ◌∷◌, ◌++◌, length, get_or, drop, map, Option, Some, None, refl, sym, ap, ◌∙◌, subst, true≢false}
 use Rattle.std.specs.Prelude.{◌==◌, ◌&&◌, is_none, if◌then◌else◌}
 use Rattle.std.specs.List.{filter_map, flat_map, list_any, cons_option}
 use Rattle.std.specs.Option.{option_map}
-use Rattle.std.specs.Cmp.{first_so, second_so}
+use Rattle.std.specs.Cmp.{eq_by_cmp_equiv}
 use Rattle.std.specs.Ordering.{eq_by_cmp}
+use Rattle.std.proofs.lemmas.Bool.Decides.{Decides-eqb}
 use Rattle.vtep_base.specs.Maps as maps
 use Rattle.vtep_schema.specs.declared.Table.{Table}
 use Rattle.vtep_schema.specs.declared.Table.TheVariants.{Acl, AclEntry}
@@ -32,6 +33,7 @@ use Rattle.forward_program.proofs.MapLists.{in_or_not, apart, put_out, put_in}
 use Rattle.forward_program.proofs.SpotOrder.{spot_exact}
 use Rattle.forward_program.proofs.InChange.{one_at, one_is, same_or_changed}
 use Rattle.forward_program.proofs.JoinLaws.{passes_some}
+use Rattle.forward_program.proofs.ClearRows.{one_left}
 use Rattle.forward_program.proofs.AclPlaces.{is_acl, acl_same, none_there, acl_there, acl_absent}
 
 -- ---- the rows of ACLs in a change
@@ -51,11 +53,39 @@ tail_in c (d ∷ cs) h = by (is_of_acl d) h (tail_in c cs)
     by true g rest = g
     by false g rest = inr (rest g)
 
+-- row by row
+module _ (cs : List RowChange) (i : ℕ) (c : RowChange) (lt : i < length cs) (at : c ≡ get_or cs i c) where
+  tail_step : acl_tail (drop i cs) ≡ (if is_of_acl c then c ∷ drop (i + 1) cs else acl_tail (drop (i + 1) cs))
+  tail_step = ap acl_tail (one_left cs i c lt at)
+
+  pub tail_here : true ≡ is_of_acl c → acl_tail (drop i cs) ≡ acl_tail cs → drop i cs ≡ acl_tail cs
+  tail_here h is = one_left cs i c lt at ∙ ap (λ b. if b then c ∷ drop (i + 1) cs else acl_tail (drop (i + 1) cs)) h ∙ sym tail_step ∙ is
+
+  pub tail_later : false ≡ is_of_acl c → acl_tail (drop i cs) ≡ acl_tail cs → acl_tail (drop (i + 1) cs) ≡ acl_tail cs
+  tail_later h is = ap (λ b. if b then c ∷ drop (i + 1) cs else acl_tail (drop (i + 1) cs)) h ∙ sym tail_step ∙ is
+
 number_itself : (n : ℕ) → (n == n) ≡ true
-number_itself n = grind arith
+number_itself n = (Decides-eqb n n).1 refl
 
 has_it : (c : RowChange) (cs : List RowChange) → IsIn c cs → has_row cs c.table c.id ≡ true
 has_it c cs is = passes_some (λ (d : RowChange). same_table d.table c.table && (d.id == c.id)) c cs is (both (same_table c.table c.table) (c.id == c.id) (same_table_itself c.table) (number_itself c.id))
+
+-- ---- a change without rows
+
+never_any : (xs : List ℕ) → list_any (has_row [] AclEntry) xs ≡ false
+never_any [] = refl
+never_any (x ∷ xs) = never_any xs
+
+nothing_put : (r : Rows) (es : List (ℕ × Contents)) → flat_map (touched_entry r []) es ≡ []
+nothing_put r [] = refl
+nothing_put r (e ∷ es) = ap (λ b. (if b then acl_entry r e ∷ [] else []) ++ flat_map (touched_entry r []) es) (never_any (ids_at e.1 AclEntries)) ∙ nothing_put r es
+
+empty : (cs : List RowChange) → true ≡ (length cs == 0) → cs ≡ []
+empty [] e = refl
+empty (c ∷ cs) e = cc
+
+pub none_followed : (r : Rows) (change : List RowChange) (m : Entries) → true ≡ (length change == 0) → m ≡ acls_followed r change m
+none_followed r change m none = let is = empty change none in sym (ap (λ (cs : List RowChange). acls_followed r cs m) is ∙ ap (put_all m) (nothing_put r (rows_of Acl r)))
 
 -- ---- places that are emptied
 
@@ -64,7 +94,7 @@ module _ (m : Entries) (q : Spot) where
   removed_there = maps.get-remove spot_total m q q ∙ ap (λ b. cond b None (maps.get m q)) (itself q)
     where
       itself : (k : Spot) → eq_by_cmp spot_cmp k k ≡ true
-      itself k = grind (spot_total)
+      itself k = (eq_by_cmp_equiv spot_total).refl k
 
   removed_apart : (k : Spot) → (k ≡ q → ⊥) → maps.get (maps.remove m q) k ≡ maps.get m k
   removed_apart k other = maps.get-remove spot_total m q k ∙ ap (λ b. cond b None (maps.get m k)) (apart spot_total spot_exact k q other)

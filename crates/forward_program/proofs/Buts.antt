@@ -18,10 +18,7 @@ but-append None ps qs = refl
 but-append (Some q) [] qs = refl
 but-append (Some q) (p ∷ ps) qs = by (not (same_port p q)) (but-append (Some q) ps qs)
   where
-    abbrev kept : List Port → List Port
-    kept xs = filter (λ x. not (same_port x q)) xs
-
-    by : (b : Bool) → kept (ps ++ qs) ≡ kept ps ++ kept qs → cond b (p ∷ kept (ps ++ qs)) (kept (ps ++ qs)) ≡ cond b (p ∷ kept ps) (kept ps) ++ kept qs
+    by : (b : Bool) → but (Some q) (ps ++ qs) ≡ but (Some q) ps ++ but (Some q) qs → cond b (p ∷ but (Some q) (ps ++ qs)) (but (Some q) (ps ++ qs)) ≡ cond b (p ∷ but (Some q) ps) (but (Some q) ps) ++ but (Some q) qs
     by true e = ap (λ xs. p ∷ xs) e
     by false e = e
 
@@ -41,14 +38,11 @@ module _ (w : Ways) (h : Headers) (from : Option Port) where
   goes bs = but from (let_out w h bs)
 
   let-cons : (b : Listed) (bs : List Listed) → let_out w h (b ∷ bs) ≡ let_out w h (b ∷ []) ++ let_out w h bs
-  let-cons b bs = by (may_pass w Egress h b.1)
+  let-cons b bs = by (may_pass w Egress h b.1) (filter (λ (c : Listed). may_pass w Egress h c.1) bs)
     where
-      abbrev kept : List Listed
-      kept = filter (λ (c : Listed). may_pass w Egress h c.1) bs
-
-      by : (t : Bool) → map (λ (c : Listed). c.0) (cond t (b ∷ kept) kept) ≡ map (λ (c : Listed). c.0) (cond t (b ∷ []) []) ++ map (λ (c : Listed). c.0) kept
-      by true = refl
-      by false = refl
+      by : (t : Bool) (kept : List Listed) → map (λ (c : Listed). c.0) (cond t (b ∷ kept) kept) ≡ map (λ (c : Listed). c.0) (cond t (b ∷ []) []) ++ map (λ (c : Listed). c.0) kept
+      by true kept = refl
+      by false kept = refl
 
   goes-cons : (b : Listed) (bs : List Listed) → goes (b ∷ bs) ≡ goes (b ∷ []) ++ goes bs
   goes-cons b bs = ap (but from) (let-cons b bs) ∙ but-append from (let_out w h (b ∷ [])) (let_out w h bs)

@@ -1,5 +1,5 @@
 -- What gives the entry at a place: a row, a binding, or a learnt address.
-use Rattle.std.proofs.Common.{◌≡◌, ◌⊎◌, inl, inr, ℕ, List, Option, Some, None, refl, sym, ap, ◌∙◌}
+use Rattle.std.proofs.Common.{◌≡◌, ◌⊎◌, inl, inr, ℕ, false, List, Option, Some, None, refl, sym, ap, ◌∙◌}
 use Rattle.std.specs.Option.{option_map}
 use Rattle.vtep_base.specs.Maps as maps
 use Rattle.vtep_schema.specs.declared.Table.TheVariants.{Acl}

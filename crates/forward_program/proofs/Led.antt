@@ -64,7 +64,7 @@ module _ (before now : Rows) (sound_before : Sound before) (rows : IsRows now) (
   shown_now = with_acls now (rows_shown now)
 
   -- a place of a row that differs, or of an ACL
-  Touched : Spot → Type 0
+  abbrev Touched : Spot → Type 0
   Touched (spot.Acl i) = Unit {0}
   Touched k = IsIn k (places (entries_before own change)) ⊎ IsIn k (places (entries_after own change))
 

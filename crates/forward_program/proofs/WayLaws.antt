@@ -69,7 +69,7 @@ module _ (r : Rows) (learnt : List Learnt) (rows : IsRows r) (sound : Sound r) (
   may_agree d h (acl ∷ lists) all =
       λ i. permits (unwrap_or (entries_agree r learnt rows sound once acl (all acl (inl refl)) i) []) h d && may_agree d h lists (λ a g. all a (inr g)) i
 
-  AreListed : List Listed → Type 0
+  abbrev AreListed : List Listed → Type 0
   AreListed bs = (b : Listed) → IsIn b bs → (acl : ℕ) → IsIn acl b.1 → is_listed r acl ≡ true
 
   kept_agree : (h : Headers) (bs : List Listed) → AreListed bs → filter (λ (b : Listed). may_pass by_entries Egress h b.1) bs ≡ filter (λ (b : Listed). may_pass by_facts Egress h b.1) bs

@@ -5,7 +5,7 @@ ghost use Rattle.std.specs.Prelude.{◌≡◌, ◌&&◌, ◌==◌, ℕ, List, []
 ghost use Rattle.std.specs.List.{list_all, list_any};
 ghost use Rattle.std.specs.Option.{option_to_list};
 ghost use Rattle.vtep_schema.specs.Tables.{same_table};
-ghost use Rattle.vtep_rows.specs.Row.{Contents, id_in, put_all};
+ghost use Rattle.vtep_rows.specs.Row.{Contents, id_in, ids_at, put_all};
 ghost use Rattle.vtep_rows.specs.Rows.{Rows as AllRows, IsRows};
 ghost use Rattle.vtep_rows.specs.Sound.{Sound};
 ghost use Rattle.vtep_rows.specs.Changes.{changes};
@@ -165,7 +165,8 @@ fn acl_tail(change: &[RowChange]) -> &[RowChange]
 {
     'change: for (at, row) in change.iter().enumerate() {
         if is_of_acl(row) {
-            return &change[at..];
+            let (_, tail) = change.split_at(at);
+            return tail;
         }
     }
     &[]
@@ -195,22 +196,25 @@ fn has_entry(change: &[RowChange], atom: &Atom) -> bool
 }
 
 fn has_some_entry(change: &[RowChange], atoms: &[Atom]) -> bool
-    ensures { result ≡ list_any (has_row change.now Table.AclEntry)
-        (filter_map id_in atoms.now) }
+    ensures { result ≡ list_any (λ atom. list_any (has_row change.now Table.AclEntry)
+        (option_to_list (id_in atom))) atoms.now }
 {
-    'atoms: for atom in atoms {
-        if has_entry(change, atom) {
-            return true;
-        }
-    }
-    false
+    atoms.iter().any(|atom| has_entry(change, atom))
+}
+
+/// Whether a change has the row of an entry of an ACL.
+fn has_its_entry(change: &[RowChange], row: &Row) -> bool
+    ensures { result ≡ list_any (has_row change.now Table.AclEntry)
+        (ids_at row.now Column.AclEntries) }
+{
+    has_some_entry(change, atoms(row, Column::AclEntries))
 }
 
 /// Whether a change has the row of an ACL, or that of one of its entries.
 fn is_touched(change: &[RowChange], id: RowId, row: &Row) -> bool
     ensures { result ≡ is_touched change.now (id, row.now) }
 {
-    has_row(change, Table::Acl, id) || has_some_entry(change, atoms(row, Column::AclEntries))
+    has_row(change, Table::Acl, id) || has_its_entry(change, row)
 }
 
 fn gone_acl(change: &RowChange) -> Option<Spot>

@@ -1,4 +1,4 @@
-use Rattle.std.proofs.Common.{◌≡◌, nat_eq, List, map, sym, ap, ◌∙◌, subst}
+use Rattle.std.proofs.Common.{nat_eq, arith, List, map, sym, ◌∙◌, subst}
 use Rattle.std.specs.List.{IsDistinct}
 use Rattle.acl_rules.specs.declared.entry.Entry.{Entry}
 use Rattle.forward_program.proofs.AclEntries.{named_once, few_rules}
@@ -10,4 +10,4 @@ of-requires c = record {
 }
 
 pub new-requires : goal.new-requires
-new-requires c = few_rules c.args.row.now c.entry_atoms.result.now _ c.in_ok-rules.rules c.table.ensures.row c.entry_atoms.ensures.atoms ? c.in_ok-rules.ensures.permutation
+new-requires c = few_rules c.args.row.now c.entry_atoms.result.now _ c.in_ok-rules.rules c.table.ensures.row c.entry_atoms.ensures.atoms (omega (arith, c.as_slice.ensures.len, c.in_ok-entries.ensures.few)) c.in_ok-rules.ensures.permutation
