@@ -1,5 +1,5 @@
 -- Once the ACLs are followed that a change touches, each holds what its rows say after it.
-use Rattle.std.proofs.Common.{◌≡◌, ◌⊎◌, ◌+◌, ◌<◌, inl, inr, ℕ, Bool, true, false, cond, ◌||◌, List, [], ◌∷◌, ◌++◌, length, get_or, drop, map, Option, Some, None, refl, sym, ap, ◌∙◌, subst, true≢false}
+use Rattle.std.proofs.Common.{◌≡◌, ◌⊎◌, ◌+◌, ◌<◌, inl, inr, ℕ, Bool, true, false, cond, ◌||◌, List, [], ◌∷◌, ◌++◌, length, get_or, drop, map, Option, Some, None, refl, sym, ap, ◌∙◌, subst, true≢false, arith}
 use Rattle.std.specs.Prelude.{◌==◌, ◌&&◌, is_none, if◌then◌else◌}
 use Rattle.std.specs.List.{filter_map, flat_map, list_any, cons_option}
 use Rattle.std.specs.Option.{option_map}
@@ -82,7 +82,7 @@ nothing_put r (e ∷ es) = ap (λ b. (if b then acl_entry r e ∷ [] else []) ++
 
 empty : (cs : List RowChange) → true ≡ (length cs == 0) → cs ≡ []
 empty [] e = refl
-empty (c ∷ cs) e = cc
+empty (c ∷ cs) e = let none : length (c ∷ cs) ≡ 0 = (Decides-eqb (length (c ∷ cs)) 0).0 (sym e) in absurd (omega arith)
 
 pub none_followed : (r : Rows) (change : List RowChange) (m : Entries) → true ≡ (length change == 0) → m ≡ acls_followed r change m
 none_followed r change m none = let is = empty change none in sym (ap (λ (cs : List RowChange). acls_followed r cs m) is ∙ ap (put_all m) (nothing_put r (rows_of Acl r)))

@@ -1,4 +1,4 @@
-use Rattle.std.proofs.Common.{◌≡◌, ℕ, List, [], ◌∷◌}
+use Rattle.std.proofs.Common.{◌≡◌, ℕ, [], ◌∷◌}
 use Rattle.std.specs.List.{flat_map}
 use Rattle.vtep_schema.specs.declared.Table.TheVariants.{Acl}
 use Rattle.vtep_rows.specs.Row.{Contents, put_all}
