@@ -1,5 +1,5 @@
 -- Once the ACLs are followed that a change touches, each holds what its rows say after it.
-use Rattle.std.proofs.Common.{◌≡◌, ◌⊎◌, ◌+◌, ◌<◌, inl, inr, ℕ, Bool, true, false, cond, ◌||◌, List, [], ◌∷◌, ◌++◌, length, get_or, drop, map, Option, Some, None, refl, sym, ap, ◌∙◌, subst, true≢false, arith}
+use Rattle.std.proofs.Common.{◌≡◌, ◌⊎◌, ◌+◌, ◌<◌, inl, inr, ℕ, Bool, true, false, cond, ◌||◌, List, [], ◌∷◌, ◌++◌, length, get_or, drop, Option, Some, None, refl, sym, ap, ◌∙◌, subst, true≢false, arith}
 use Rattle.std.specs.Prelude.{◌==◌, ◌&&◌, is_none, if◌then◌else◌}
 use Rattle.std.specs.List.{filter_map, flat_map, list_any, cons_option}
 use Rattle.std.specs.Option.{option_map}
@@ -20,7 +20,6 @@ use Rattle.vtep_rows.proofs.Kept.{same_table_exact, same_table_itself}
 use Rattle.acl_rules.specs.Permits.{in_order}
 use Rattle.forward_program.specs.declared.spots.Spot.{Spot}
 use Rattle.forward_program.specs.declared.spots.Spot.TheVariants as spot
-use Rattle.forward_program.specs.declared.held.Held.{Held}
 use Rattle.forward_program.specs.declared.held.Held.TheVariants as held
 use Rattle.forward_program.specs.Acls.{entry_of, entry_at, entries_at}
 use Rattle.forward_program.specs.Built.{IsIn}
@@ -29,7 +28,7 @@ use Rattle.forward_program.specs.Shown.{Entry, acl_entry, with_acls, rows_shown}
 use Rattle.forward_program.specs.Follows.{places, is_of_acl, acl_tail, gone_acl, without, has_row, is_touched, touched_entry, touched_entries, acls_followed}
 use Rattle.forward_program.proofs.InLists.{in_map, map_in, in_flat, flat_in, in_picked, picked_in}
 use Rattle.forward_program.proofs.RowsIn.{in_rows, rows_in}
-use Rattle.forward_program.proofs.MapLists.{in_or_not, apart, put_out, put_in}
+use Rattle.forward_program.proofs.MapLists.{apart, put_out, put_in}
 use Rattle.forward_program.proofs.SpotOrder.{spot_exact}
 use Rattle.forward_program.proofs.InChange.{one_at, one_is, same_or_changed}
 use Rattle.forward_program.proofs.JoinLaws.{passes_some}
@@ -228,11 +227,11 @@ module _ (before now : Rows) (change : List RowChange) (is : change ≡ changes 
     stay_right : (row : Contents) → row_at now (Acl, i) ≡ Some row → is_touched tail (i, row) ≡ false → maps.get (acls_followed now tail p) (spot.Acl i) ≡ Some (held.Rules (entries_at now row))
     stay_right row at t =
         put_out spot_total spot_exact touched (without p gone) (spot.Acl i) (λ h.
-            let e = touched_place (spot.Acl i) h in
-            let id : i ≡ e.0.0 = acl_same i e.0.0 e.3 in
-            let same : row ≡ e.0.1 = same_some row e.0.1 (sym at ∙ ap (λ j. row_at now (Acl, j)) id ∙ in_rows now Acl e.0 e.1) in
-            let clash : false ≡ true = sym t ∙ (λ j. is_touched tail (id j, same j)) ∙ e.2 in
-            cc)
+        let e = touched_place (spot.Acl i) h in
+        let id : i ≡ e.0.0 = acl_same i e.0.0 e.3 in
+        let same : row ≡ e.0.1 = same_some row e.0.1 (sym at ∙ ap (λ j. row_at now (Acl, j)) id ∙ in_rows now Acl e.0 e.1) in
+        let clash : false ≡ true = sym t ∙ (λ j. is_touched tail (id j, same j)) ∙ e.2 in
+        cc)
         ∙ without_out p gone (spot.Acl i) (λ h. let clash : Some row ≡ None = sym at ∙ gone_row i h in cc)
         ∙ was
         ∙ acl_there before (rows_shown before) i row (untouched_row row at t)

@@ -1,6 +1,5 @@
 -- An ACL is listed by the entries where some binding's lists name it.
 use Rattle.std.proofs.Common.{◌≡◌, ℕ, true, List, refl, sym, ap, ◌∙◌}
-use Rattle.std.specs.List.{list_any}
 use Rattle.vtep_rows.specs.Rows.{Rows, IsRows}
 use Rattle.vtep_rows.specs.Sound.{Sound}
 use Rattle.mac_learning.specs.declared.Learnt.{Learnt}

@@ -1,5 +1,6 @@
-//! How the forwarding state follows a change: the places of what was in the rows are emptied, then what is in them is put, then the
-//! ACLs that the change touches, and last the learnt list is asked for each address that it may concern.
+//! How the forwarding state follows a change: the places of what was in the rows are emptied, then
+//! what is in them is put, then the ACLs that the change touches, and last the learnt list is asked
+//! for each address that it may concern.
 
 ghost use Rattle.std.specs.Prelude.{◌≡◌, ◌&&◌, ◌==◌, ℕ, List, [], ◌∷◌, true, false, Some, filter_map, flat_map, option_map, IfSome, OnOk};
 ghost use Rattle.std.specs.List.{list_all, list_any};
@@ -22,8 +23,8 @@ ghost use Rattle.forward_program.specs.Same.{same_number};
 
 use crate::fib::Fib;
 use crate::readings::{
-    atoms, bound_to, ip, other_address, port_name, read_group, read_remote, tunnel_key, vlan_and_switch,
-    vlan_pairs,
+    atoms, bound_to, ip, other_address, port_name, read_group, read_remote, tunnel_key,
+    vlan_and_switch, vlan_pairs,
 };
 use crate::spots::{Part, Spot};
 use mac_learning::{Learned, Learnt};
@@ -477,8 +478,8 @@ impl<L: Ledger> Fib<L> {
         self.put_touched(alloc, rows, change, steps)
     }
 
-    /// Makes it the state after a change that keeps the gateway's own address. What a remote row had is put anew before the learnt
-    /// list is asked for its address.
+    /// Makes it the state after a change that keeps the gateway's own address. What a remote row
+    /// had is put anew before the learnt list is asked for its address.
     pub(crate) fn follow(
         &mut self,
         alloc: Global,

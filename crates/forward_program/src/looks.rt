@@ -195,7 +195,8 @@ impl<L: Ledger> Fib<L> {
         }
     }
 
-    /// Where an address is: a learnt one, or one of a bound switch behind another gateway. Takes no memory.
+    /// Where an address is: a learnt one, or one of a bound switch behind another gateway. Takes no
+    /// memory.
     pub fn find(&self, switch: RowId, mac: Mac) -> Option<Place>
         requires going { self.now.broken ≡ false }
         ensures place { result ≡ found_at self.now.entries switch mac }
