@@ -123,18 +123,18 @@ module _ (l : List Learnt) (addresses : List Address) where
   asked_host m s a h = places_in (map (place_now l) addresses) m (host s a) (learnt_port l s a) (at_listed s a) h
 
 -- the places after the rows are followed, and the addresses that are asked for
-module _ (before now : List Learnt) (once_before : IsOnce before) (once_now : IsOnce now) (addresses : List Address) (old_rows new_rows m p q : Entries) (gone staying : List Spot)
+module _ (before now : List Learnt) (once_before : IsOnce before) (once_now : IsOnce now) (addresses : List Address) (old_rows new_rows m p q : Entries) (Touched : Spot → Type 0)
     (was : m ≡ with_learnt before old_rows) (is : q ≡ asked now addresses p)
-    (followed : (k : Spot) → ((IsIn k gone ⊎ IsIn k staying) × (maps.get p k ≡ maps.get new_rows k)) ⊎ ((IsIn k gone → ⊥) × (IsIn k staying → ⊥) × (maps.get p k ≡ maps.get m k) × (maps.get old_rows k ≡ maps.get new_rows k)))
+    (followed : (k : Spot) → (Touched k × (maps.get p k ≡ maps.get new_rows k)) ⊎ ((maps.get p k ≡ maps.get m k) × (maps.get old_rows k ≡ maps.get new_rows k)))
     (remote : (s a : ℕ) → IsRemote (maps.get new_rows (host s a)))
-    (touched : (s a : ℕ) → IsIn (host s a) gone ⊎ IsIn (host s a) staying → IsIn (s, a) addresses)
+    (touched : (s a : ℕ) → Touched (host s a) → IsIn (s, a) addresses)
     (moved : (s a : ℕ) → IsIn (s, a) addresses ⊎ (learnt_port before s a ≡ learnt_port now s a)) where
   plain_right : (k : Spot) → is_host k ≡ false → maps.get q k ≡ maps.get (with_learnt now new_rows) k
   plain_right k out = ap (λ (n : Entries). maps.get n k) is ∙ asked_plain now addresses p k out ∙ by (followed k) ∙ sym (with_plain now once_now new_rows k out)
     where
-      by : ((IsIn k gone ⊎ IsIn k staying) × (maps.get p k ≡ maps.get new_rows k)) ⊎ ((IsIn k gone → ⊥) × (IsIn k staying → ⊥) × (maps.get p k ≡ maps.get m k) × (maps.get old_rows k ≡ maps.get new_rows k)) → maps.get p k ≡ maps.get new_rows k
+      by : (Touched k × (maps.get p k ≡ maps.get new_rows k)) ⊎ ((maps.get p k ≡ maps.get m k) × (maps.get old_rows k ≡ maps.get new_rows k)) → maps.get p k ≡ maps.get new_rows k
       by (inl (t, e)) = e
-      by (inr (g, s, e, same)) = e ∙ ap (λ (n : Entries). maps.get n k) was ∙ with_plain before once_before old_rows k out ∙ same
+      by (inr (e, same)) = e ∙ ap (λ (n : Entries). maps.get n k) was ∙ with_plain before once_before old_rows k out ∙ same
 
   module _ (s a : ℕ) where
     -- what was learnt, beside what the rows say now
@@ -144,21 +144,19 @@ module _ (before now : List Learnt) (once_before : IsOnce before) (once_now : Is
     asked_right : IsIn (host s a) (spots (map (place_now now) addresses)) → maps.get q (host s a) ≡ merged (learnt_port now s a) (maps.get new_rows (host s a))
     asked_right h = ap (λ (n : Entries). maps.get n (host s a)) is ∙ asked_host now addresses p s a h ∙ by (followed (host s a))
       where
-        by : ((IsIn (host s a) gone ⊎ IsIn (host s a) staying) × (maps.get p (host s a) ≡ maps.get new_rows (host s a)))
-            ⊎ ((IsIn (host s a) gone → ⊥) × (IsIn (host s a) staying → ⊥) × (maps.get p (host s a) ≡ maps.get m (host s a)) × (maps.get old_rows (host s a) ≡ maps.get new_rows (host s a)))
+        by : (Touched (host s a) × (maps.get p (host s a) ≡ maps.get new_rows (host s a))) ⊎ ((maps.get p (host s a) ≡ maps.get m (host s a)) × (maps.get old_rows (host s a) ≡ maps.get new_rows (host s a)))
             → put_right (learnt_port now s a) (maps.get p (host s a)) ≡ merged (learnt_port now s a) (maps.get new_rows (host s a))
         by (inl (t, e)) = ap (put_right (learnt_port now s a)) e ∙ right None (learnt_port now s a) (maps.get new_rows (host s a)) (remote s a)
-        by (inr (g, t, e, same)) = ap (put_right (learnt_port now s a)) (kept e same) ∙ right (learnt_port before s a) (learnt_port now s a) (maps.get new_rows (host s a)) (remote s a)
+        by (inr (e, same)) = ap (put_right (learnt_port now s a)) (kept e same) ∙ right (learnt_port before s a) (learnt_port now s a) (maps.get new_rows (host s a)) (remote s a)
 
     left_right : (IsIn (host s a) (spots (map (place_now now) addresses)) → ⊥) → maps.get q (host s a) ≡ merged (learnt_port now s a) (maps.get new_rows (host s a))
     left_right never = ap (λ (n : Entries). maps.get n (host s a)) is ∙ places_out (map (place_now now) addresses) p (host s a) never ∙ by (followed (host s a)) (moved s a)
       where
-        by : ((IsIn (host s a) gone ⊎ IsIn (host s a) staying) × (maps.get p (host s a) ≡ maps.get new_rows (host s a)))
-            ⊎ ((IsIn (host s a) gone → ⊥) × (IsIn (host s a) staying → ⊥) × (maps.get p (host s a) ≡ maps.get m (host s a)) × (maps.get old_rows (host s a) ≡ maps.get new_rows (host s a)))
+        by : (Touched (host s a) × (maps.get p (host s a) ≡ maps.get new_rows (host s a))) ⊎ ((maps.get p (host s a) ≡ maps.get m (host s a)) × (maps.get old_rows (host s a) ≡ maps.get new_rows (host s a)))
             → IsIn (s, a) addresses ⊎ (learnt_port before s a ≡ learnt_port now s a) → maps.get p (host s a) ≡ merged (learnt_port now s a) (maps.get new_rows (host s a))
         by f (inl h) = absurd (never (listed now addresses s a h))
         by (inl (t, e)) (inr same_port) = absurd (never (listed now addresses s a (touched s a t)))
-        by (inr (g, t, e, same)) (inr same_port) = kept e same ∙ ap (λ o. merged o (maps.get new_rows (host s a))) same_port
+        by (inr (e, same)) (inr same_port) = kept e same ∙ ap (λ o. merged o (maps.get new_rows (host s a))) same_port
 
     host_right : maps.get q (host s a) ≡ maps.get (with_learnt now new_rows) (host s a)
     host_right = by (in_or_not spot_total spot_exact (host s a) (spots (map (place_now now) addresses))) ∙ sym (with_host now once_now new_rows s a)

@@ -34,7 +34,7 @@ item_in (x ∷ items) (suc i) d lt = inr (item_in items i d (omega arith))
 -- ---- a list whose items each have entries, item by item
 
 module _ {A : Type 0} (items : List A) (i : ℕ) (x : A) (lt : i < length items) (at : x ≡ get_or items i x) where
-  one_left : drop i items ≡ x ∷ drop (i + 1) items
+  pub one_left : drop i items ≡ x ∷ drop (i + 1) items
   one_left = drop_more items i x lt ∙ ap (λ y. y ∷ drop (i + 1) items) (sym at)
 
   pub one_cleared : (f : A → List Entry) (m n p : Entries) (staying : List Spot) → IsCleared m n (places (f x)) staying → IsCleared n p (places (flat_map f (drop (i + 1) items))) staying

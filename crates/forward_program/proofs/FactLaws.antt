@@ -3,7 +3,7 @@ use Rattle.std.proofs.Common.{◌≡◌, inl, inr, ℕ, Bool, true, false, ◌||
 use Rattle.std.specs.List.{filter_map}
 use Rattle.std.specs.Option.{option_and_then, option_map}
 use Rattle.vtep_base.specs.Maps as maps
-use Rattle.vtep_schema.specs.declared.Table.TheVariants.{LogicalSwitch, UcastMacsRemote, McastMacsRemote}
+use Rattle.vtep_schema.specs.declared.Table.TheVariants.{LogicalSwitch, UcastMacsRemote, McastMacsRemote, Acl}
 use Rattle.vtep_schema.specs.declared.Column.TheVariants.{LogicalTunnelKey}
 use Rattle.vtep_rows.specs.Row.{Contents, number_at}
 use Rattle.vtep_rows.specs.Rows.{Rows, IsRows, rows_of, row_at}
@@ -24,17 +24,19 @@ use Rattle.forward_program.specs.declared.facts.Fact.TheVariants as fact
 use Rattle.forward_program.specs.declared.facts.Place.TheVariants.{There}
 use Rattle.forward_program.specs.Places.{is_here}
 use Rattle.forward_program.specs.Readings.{remote_of, group_of}
-use Rattle.forward_program.specs.Built.{IsIn, Binding, bindings, is_bound, if_bound, acl_rows, bind_fact, vni_fact, remote_fact, unlearnt_fact, learnt_fact, flood_to, flood_fact, built}
+use Rattle.forward_program.specs.Acls.{entries_at}
+use Rattle.forward_program.specs.Built.{IsIn, Binding, bindings, is_bound, if_bound, acl_rows, bind_fact, vni_fact, remote_fact, unlearnt_fact, learnt_fact, flood_to, flood_fact, acl_fact, built}
 use Rattle.forward_program.specs.Spots.{Entries}
 use Rattle.forward_program.specs.Hosts.{port_of, host, there_in}
 use Rattle.forward_program.specs.Shown.{rows_shown, shown}
-use Rattle.forward_program.specs.Joins.{Bound, bound_in, of_in, place_in, flood_in, address_at, is_bound_at, fact_at, facts_of}
+use Rattle.forward_program.specs.Joins.{Bound, bound_in, of_in, place_in, flood_in, rules_in, address_at, is_bound_at, is_listed_at, fact_at, facts_of}
 use Rattle.forward_program.proofs.InLists.{in_front, in_back, in_either, in_map, map_in, in_picked, picked_in}
 use Rattle.forward_program.proofs.RowsIn.{in_rows, rows_in}
 use Rattle.forward_program.proofs.MapLists.{get_in}
 use Rattle.forward_program.proofs.SpotOrder.{spot_exact}
 use Rattle.forward_program.proofs.Known.{KnownHost, known_at, at_known}
 use Rattle.forward_program.proofs.Unique.{some_of}
+use Rattle.forward_program.proofs.ListedLaws.{listed_is}
 use Rattle.forward_program.proofs.JoinLaws.{address_is, addresses_are, mode_is, bound_is}
 
 bound_map : {A B : Type 0} (f : A → B) (b : Bool) (x : A) → option_map f (if_bound b (Some x)) ≡ if_bound b (Some (f x))
@@ -66,7 +68,11 @@ something m k f is = by (maps.get m k) refl
     none (spot.Vni n) e g = let clash : None ≡ Some f = ap (λ o. option_map (fact.Vni n) (option_and_then (λ s. if_bound (is_bound_at m s) (Some s)) (of_in o))) (sym e) ∙ g in cc
     none (spot.Set i) e g = cc
     none (spot.Locator i) e g = cc
-    none (spot.Acl i) e g = cc
+    none (spot.Acl i) e g = unlisted (is_listed_at m i) (ap (λ o. if is_listed_at m i then option_map (fact.Acl i) (rules_in o) else None) (sym e) ∙ g)
+      where
+        unlisted : (b : Bool) → (if b then None else None) ≡ Some f → ⊥
+        unlisted true h = cc
+        unlisted false h = cc
 
     by : (o : Option Held) → maps.get m k ≡ o → (h : Held) × (maps.get m k ≡ Some h)
     by None e = absurd (none k e is)
@@ -118,7 +124,12 @@ module _ (r : Rows) (learnt : List Learnt) (rows : IsRows r) (sound : Sound r) (
       (known_at r learnt rows sound once (spot.Switch x.switch (part.Group x.group)) (held.Set x.set) (id, row, at, x, known, refl, refl, refl))
       ∙ (λ i. if_bound (bound_is r learnt rows sound once x.switch i) (flood_to x.switch x.group (targets (mode_is r learnt rows sound once x.switch i) (addresses_are r learnt rows sound once x.set i))))
 
-  -- ---- the five parts of what is built
+  acl_at : (id : ℕ) (row : Contents) → row_at r (Acl, id) ≡ Some row → fact_at m (spot.Acl id) ≡ acl_fact r (id, row)
+  acl_at id row at =
+      ap (λ o. if is_listed_at m id then option_map (fact.Acl id) (rules_in o) else None) (known_at r learnt rows sound once (spot.Acl id) (held.Rules (entries_at r row)) (row, at, refl))
+      ∙ ap (λ b. if b then Some (fact.Acl id (entries_at r row)) else None) (listed_is r learnt rows sound once id)
+
+  -- ---- the six parts of what is built
 
   abbrev networks : List Fact
   networks = filter_map (vni_fact r) (rows_of LogicalSwitch r)
@@ -144,14 +155,23 @@ module _ (r : Rows) (learnt : List Learnt) (rows : IsRows r) (sound : Sound r) (
   abbrev remote_part : List Fact
   remote_part = learnt_part ++ remote_facts
 
+  abbrev flood_part : List Fact
+  flood_part = remote_part ++ flood_facts
+
+  abbrev acl_facts : List Fact
+  acl_facts = filter_map (acl_fact r) (rows_of Acl r)
+
+  in_flood : (f : Fact) → IsIn f flood_part → IsIn f (built r learnt)
+  in_flood f h = in_front f flood_part acl_facts h
+
   in_bound : (f : Fact) → IsIn f bound_part → IsIn f (built r learnt)
-  in_bound f h = in_front f remote_part flood_facts (in_front f learnt_part remote_facts (in_front f bound_part learnt_facts h))
+  in_bound f h = in_flood f (in_front f remote_part flood_facts (in_front f learnt_part remote_facts (in_front f bound_part learnt_facts h)))
 
   in_learnt : (f : Fact) → IsIn f learnt_facts → IsIn f (built r learnt)
-  in_learnt f h = in_front f remote_part flood_facts (in_front f learnt_part remote_facts (in_back f bound_part learnt_facts h))
+  in_learnt f h = in_flood f (in_front f remote_part flood_facts (in_front f learnt_part remote_facts (in_back f bound_part learnt_facts h)))
 
   in_remote : (f : Fact) → IsIn f remote_facts → IsIn f (built r learnt)
-  in_remote f h = in_front f remote_part flood_facts (in_back f learnt_part remote_facts h)
+  in_remote f h = in_flood f (in_front f remote_part flood_facts (in_back f learnt_part remote_facts h))
 
   -- an address that is learnt, or has a remote row
   host_said : (s a : ℕ) (f : Fact) (h : Held) → fact_at m (host s a) ≡ Some f → KnownHost r learnt s a h → IsIn f (built r learnt)
@@ -178,13 +198,15 @@ module _ (r : Rows) (learnt : List Learnt) (rows : IsRows r) (sound : Sound r) (
   said_given (spot.Switch s (part.Group g)) f is h there =
       let x = at_known r learnt rows sound once (spot.Switch s (part.Group g)) h there in
       let same : flood_fact r x.3 ≡ Some f = sym (group_at x.0 x.1 x.3 x.2 x.4) ∙ (λ i. fact_at m (spot.Switch (x.5 i) (part.Group (x.6 i)))) ∙ is in
-      in_back f remote_part flood_facts
-      (picked_in (λ (e : ℕ × Contents). option_and_then (flood_fact r) (group_of e.1)) f (x.0, x.1) (rows_of McastMacsRemote r) (rows_in r McastMacsRemote x.0 x.1 x.2) (ap (option_and_then (flood_fact r)) x.4 ∙ same))
+      in_flood f (in_back f remote_part flood_facts
+      (picked_in (λ (e : ℕ × Contents). option_and_then (flood_fact r) (group_of e.1)) f (x.0, x.1) (rows_of McastMacsRemote r) (rows_in r McastMacsRemote x.0 x.1 x.2) (ap (option_and_then (flood_fact r)) x.4 ∙ same)))
   said_given (spot.Switch s part.Itself) f is h there = cc
   said_given (spot.Switch s (part.Member p v)) f is h there = cc
   said_given (spot.Set i) f is h there = cc
   said_given (spot.Locator i) f is h there = cc
-  said_given (spot.Acl i) f is h there = cc
+  said_given (spot.Acl i) f is h there =
+      let x = at_known r learnt rows sound once (spot.Acl i) h there in
+      in_back f flood_part acl_facts (picked_in (acl_fact r) f (i, x.0) (rows_of Acl r) (rows_in r Acl i x.0 x.1) (sym (acl_at i x.0 x.1) ∙ is))
 
   pub said_built : (k : Spot) (f : Fact) → fact_at m k ≡ Some f → IsIn f (built r learnt)
   said_built k f is = let h = something m k f is in said_given k f is h.0 h.1
@@ -217,13 +239,21 @@ module _ (r : Rows) (learnt : List Learnt) (rows : IsRows r) (sound : Sound r) (
     | inl front ↦ learnt_said f front
   ]
 
-  pub built_said : (f : Fact) → IsIn f (built r learnt) → (k : Spot) × (fact_at m k ≡ Some f)
-  built_said f is = elim (in_either f remote_part flood_facts is) [
+  flood_said : (f : Fact) → IsIn f flood_part → (k : Spot) × (fact_at m k ≡ Some f)
+  flood_said f is = elim (in_either f remote_part flood_facts is) [
     | inr in_floods ↦
         let e = in_picked (λ (e : ℕ × Contents). option_and_then (flood_fact r) (group_of e.1)) f (rows_of McastMacsRemote r) in_floods in
         let x = some_of (flood_fact r) (group_of e.0.1) f e.2 in
         (spot.Switch x.0.switch (part.Group x.0.group), group_at e.0.0 e.0.1 x.0 (in_rows r McastMacsRemote e.0 e.1) x.1 ∙ x.2)
     | inl front ↦ remote_said f front
+  ]
+
+  pub built_said : (f : Fact) → IsIn f (built r learnt) → (k : Spot) × (fact_at m k ≡ Some f)
+  built_said f is = elim (in_either f flood_part acl_facts is) [
+    | inr in_acls ↦
+        let e = in_picked (acl_fact r) f (rows_of Acl r) in_acls in
+        (spot.Acl e.0.0, acl_at e.0.0 e.0.1 (in_rows r Acl e.0 e.1) ∙ e.2)
+    | inl front ↦ flood_said f front
   ]
 
   -- the facts are those that are built

@@ -27,7 +27,7 @@ use Rattle.forward_program.proofs.Unique.{given_at}
 use Rattle.forward_program.proofs.Homes.{home, Has, at_home, one_home}
 use Rattle.forward_program.proofs.InChange.{never_same, IsOne, one_at, one_is, same_or_changed}
 
-same_options : {X : Type 0} (a b : Option X) → ((x : X) → a ≡ Some x → b ≡ Some x) → ((x : X) → b ≡ Some x → a ≡ Some x) → a ≡ b
+pub same_options : {X : Type 0} (a b : Option X) → ((x : X) → a ≡ Some x → b ≡ Some x) → ((x : X) → b ≡ Some x → a ≡ Some x) → a ≡ b
 same_options None None f g = refl
 same_options (Some x) b f g = sym (f x refl)
 same_options None (Some y) f g = g y refl

@@ -1,6 +1,6 @@
 -- Where a frame goes by the entries of sound rows is where it goes by the facts that are built from the rows.
 use Rattle.std.proofs.Common.{◌≡◌, inl, ℕ, Bool, true, false, cond, ◌&&◌, ◌||◌, List, [], ◌∷◌, Option, Some, None, refl, sym, ap, ◌∙◌, subst}
-use Rattle.std.specs.Prelude.{◌==◌}
+use Rattle.std.specs.Prelude.{◌==◌, if◌then◌else◌}
 use Rattle.std.specs.List.{filter_map}
 use Rattle.std.specs.Option.{option_and_then, option_map, unwrap_or}
 use Rattle.std.specs.Cmp.{first_so, second_so}
@@ -12,6 +12,7 @@ use Rattle.vtep_rows.specs.Row.{number_at, first}
 use Rattle.vtep_rows.specs.Rows.{Rows, IsRows, row_at}
 use Rattle.vtep_rows.specs.Sound.{Sound}
 use Rattle.vtep_rows.proofs.Entries.{same_some, both}
+use Rattle.acl_rules.specs.declared.entry.Entry.{Entry}
 use Rattle.mac_learning.specs.declared.Learnt.{Learnt}
 use Rattle.mac_learning.specs.Learning.{IsOnce}
 use Rattle.forward_program.specs.declared.spots.Spot.{Spot}
@@ -20,17 +21,18 @@ use Rattle.forward_program.specs.declared.spots.Part.TheVariants as part
 use Rattle.forward_program.specs.declared.facts.Fact.{Fact}
 use Rattle.forward_program.specs.declared.facts.Fact.TheVariants as fact
 use Rattle.forward_program.specs.declared.facts.Place.{Place}
-use Rattle.forward_program.specs.Built.{IsIn, is_bound, if_bound, acl_rows, flood_to, built}
+use Rattle.forward_program.specs.Built.{IsIn, is_bound, is_listed, if_bound, acl_rows, flood_to, built}
 use Rattle.forward_program.specs.Spots.{Entries}
 use Rattle.forward_program.specs.Shown.{shown}
-use Rattle.forward_program.specs.Joins.{Port, Bound, bound_at, of_in, network_at, vni_at, place_at, found_at, flood_at, is_bound_at, fact_at}
-use Rattle.forward_program.specs.Hop.{same_port, bound_by, network_by, vni_by, place_by, flood_by, same_group}
+use Rattle.forward_program.specs.Joins.{Port, Bound, bound_at, of_in, network_at, vni_at, place_at, found_at, flood_at, rules_at, is_bound_at, is_listed_at, fact_at}
+use Rattle.forward_program.specs.Hop.{same_port, bound_by, lists_by, entries_by, network_by, vni_by, place_by, flood_by, same_group}
 use Rattle.forward_program.proofs.InLists.{in_picked, picked_in}
 use Rattle.forward_program.proofs.Known.{at_known}
 use Rattle.forward_program.proofs.Unique.{some_of, map_of, bytes_same, bytes_itself}
 use Rattle.forward_program.specs.Places.{is_here}
 use Rattle.forward_program.proofs.FactLaws.{said_built, built_said, network_at_row, something}
 use Rattle.forward_program.proofs.JoinLaws.{bound_is, vni_is}
+use Rattle.forward_program.proofs.ListedLaws.{listed_is}
 use Rattle.forward_program.proofs.Once.{its_place, found_built, built_found}
 
 -- ---- the first of what is picked, where only one thing can be picked
@@ -83,6 +85,12 @@ group_itself (Some m) = number_itself m
 bind_switch : (p q : Bytes) (v w s t : ℕ) (ls ks : List ℕ) → fact.Bind p v s ls ≡ fact.Bind q w t ks → s ≡ t
 bind_switch p q v w s t ls ks e = cc
 
+bind_lists : (p q : Bytes) (v w s t : ℕ) (ls ks : List ℕ) → fact.Bind p v s ls ≡ fact.Bind q w t ks → ls ≡ ks
+bind_lists p q v w s t ls ks e = cc
+
+acl_entries : (a b : ℕ) (xs ys : List Entry) → fact.Acl a xs ≡ fact.Acl b ys → xs ≡ ys
+acl_entries a b xs ys e = cc
+
 vni_switch : (m n s t : ℕ) → fact.Vni m s ≡ fact.Vni n t → s ≡ t
 vni_switch m n s t e = cc
 
@@ -114,6 +122,7 @@ module _ (r : Rows) (learnt : List Learnt) (rows : IsRows r) (sound : Sound r) (
       there (fact.Vni vni switch) y is e = cc
       there (fact.Mac switch mac place) y is e = cc
       there (fact.Flood switch group addresses) y is e = cc
+      there (fact.Acl acl entries) y is e = cc
 
       back : (y : ℕ) → option_map (λ (b : Bound). b.switch) (bound_at m p) ≡ Some y → (f : Fact) × IsIn f (built r learnt) × (bound_by p f ≡ Some y)
       back y e =
@@ -122,6 +131,68 @@ module _ (r : Rows) (learnt : List Learnt) (rows : IsRows r) (sound : Sound r) (
             said_built r learnt rows sound once (spot.Port p.0 p.1) (fact.Bind p.0 p.1 b.0.switch (acl_rows b.0.lists)) (ap (option_map (λ (c : Bound). fact.Bind p.0 p.1 c.switch (acl_rows c.lists))) b.1),
             passes (same_port p p) b.0.switch (port_itself p) ∙ ap Some (sym b.2),
           )
+
+  -- ---- the lists of a binding
+
+  lists_said : (port : Bytes) (vlan switch : ℕ) (lists : List ℕ) → IsIn (fact.Bind port vlan switch lists) (built r learnt) → option_map (λ (b : Bound). acl_rows b.lists) (bound_at m (port, vlan)) ≡ Some lists
+  lists_said port vlan switch lists is =
+      let f = said (fact.Bind port vlan switch lists) (spot.Port port vlan) is (λ j e. sym (its_place m j (fact.Bind port vlan switch lists) e)) in
+      let b = map_of (λ (b : Bound). fact.Bind port vlan b.switch (acl_rows b.lists)) (bound_at m (port, vlan)) (fact.Bind port vlan switch lists) f in
+      ap (option_map (λ (b : Bound). acl_rows b.lists)) b.1 ∙ ap Some (sym (bind_lists port port vlan vlan switch b.0.switch lists (acl_rows b.0.lists) b.2))
+
+  pub lists_agree : (p : Port) → option_map (λ (b : Bound). acl_rows b.lists) (bound_at m p) ≡ first (filter_map (lists_by p) (built r learnt))
+  lists_agree p = first_picked (lists_by p) (built r learnt) (option_map (λ (b : Bound). acl_rows b.lists) (bound_at m p)) there back
+    where
+      there : (f : Fact) (y : List ℕ) → IsIn f (built r learnt) → lists_by p f ≡ Some y → option_map (λ (b : Bound). acl_rows b.lists) (bound_at m p) ≡ Some y
+      there (fact.Bind port vlan switch lists) y is e =
+          let h = passed (same_port p (port, vlan)) lists y e in
+          ap (λ (q : Port). option_map (λ (b : Bound). acl_rows b.lists) (bound_at m q)) (port_same p (port, vlan) h.0) ∙ lists_said port vlan switch lists is ∙ ap Some h.1
+      there (fact.Vni vni switch) y is e = cc
+      there (fact.Mac switch mac place) y is e = cc
+      there (fact.Flood switch group addresses) y is e = cc
+      there (fact.Acl acl entries) y is e = cc
+
+      back : (y : List ℕ) → option_map (λ (b : Bound). acl_rows b.lists) (bound_at m p) ≡ Some y → (f : Fact) × IsIn f (built r learnt) × (lists_by p f ≡ Some y)
+      back y e =
+          let b = map_of (λ (b : Bound). acl_rows b.lists) (bound_at m p) y e in (
+            fact.Bind p.0 p.1 b.0.switch (acl_rows b.0.lists),
+            said_built r learnt rows sound once (spot.Port p.0 p.1) (fact.Bind p.0 p.1 b.0.switch (acl_rows b.0.lists)) (ap (option_map (λ (c : Bound). fact.Bind p.0 p.1 c.switch (acl_rows c.lists))) b.1),
+            passes (same_port p p) (acl_rows b.0.lists) (port_itself p) ∙ ap Some (sym b.2),
+          )
+
+  -- ---- the entries of an ACL that is listed
+
+  module _ (acl : ℕ) (listed : is_listed r acl ≡ true) where
+    seen : is_listed_at m acl ≡ true
+    seen = listed_is r learnt rows sound once acl ∙ listed
+
+    of_rules : fact_at m (spot.Acl acl) ≡ option_map (fact.Acl acl) (rules_at m acl)
+    of_rules = ap (λ b. if b then option_map (fact.Acl acl) (rules_at m acl) else None) seen
+
+    pub entries_agree : rules_at m acl ≡ first (filter_map (entries_by acl) (built r learnt))
+    entries_agree = first_picked (entries_by acl) (built r learnt) (rules_at m acl) there back
+      where
+        entries_said : (entries : List Entry) → IsIn (fact.Acl acl entries) (built r learnt) → rules_at m acl ≡ Some entries
+        entries_said entries is =
+            let f = said (fact.Acl acl entries) (spot.Acl acl) is (λ j e. sym (its_place m j (fact.Acl acl entries) e)) in
+            let x = map_of (fact.Acl acl) (rules_at m acl) (fact.Acl acl entries) (sym (of_rules) ∙ f) in
+            x.1 ∙ ap Some (sym (acl_entries acl acl entries x.0 x.2))
+
+        there : (f : Fact) (y : List Entry) → IsIn f (built r learnt) → entries_by acl f ≡ Some y → rules_at m acl ≡ Some y
+        there (fact.Acl id entries) y is e =
+            let h = passed (id == acl) entries y e in
+            entries_said entries (subst (λ n. IsIn (fact.Acl n entries) (built r learnt)) (number_same id acl h.0) is) ∙ ap Some h.1
+        there (fact.Bind port vlan switch lists) y is e = cc
+        there (fact.Vni vni switch) y is e = cc
+        there (fact.Mac switch mac place) y is e = cc
+        there (fact.Flood switch group addresses) y is e = cc
+
+        back : (y : List Entry) → rules_at m acl ≡ Some y → (f : Fact) × IsIn f (built r learnt) × (entries_by acl f ≡ Some y)
+        back y e = (
+          fact.Acl acl y,
+          said_built r learnt rows sound once (spot.Acl acl) (fact.Acl acl y) (of_rules ∙ ap (option_map (fact.Acl acl)) e),
+          passes (acl == acl) y (number_itself acl),
+        )
 
   vni_said : (vni switch : ℕ) → IsIn (fact.Vni vni switch) (built r learnt) → network_at m vni ≡ Some switch
   vni_said vni switch is =
@@ -139,6 +210,7 @@ module _ (r : Rows) (learnt : List Learnt) (rows : IsRows r) (sound : Sound r) (
       there (fact.Bind port vlan switch lists) y is e = cc
       there (fact.Mac switch mac place) y is e = cc
       there (fact.Flood switch group addresses) y is e = cc
+      there (fact.Acl acl entries) y is e = cc
 
       back : (y : ℕ) → network_at m n ≡ Some y → (f : Fact) × IsIn f (built r learnt) × (network_by n f ≡ Some y)
       back y e = (fact.Vni n y, said_built r learnt rows sound once (spot.Vni n) (fact.Vni n y) (ap (option_map (fact.Vni n)) e), passes (n == n) y (number_itself n))
@@ -168,6 +240,7 @@ module _ (r : Rows) (learnt : List Learnt) (rows : IsRows r) (sound : Sound r) (
         there (fact.Bind port vlan switch lists) y is e = cc
         there (fact.Mac switch mac place) y is e = cc
         there (fact.Flood switch group addresses) y is e = cc
+        there (fact.Acl acl entries) y is e = cc
 
         back : (y : ℕ) → vni_at m s ≡ Some y → (f : Fact) × IsIn f (built r learnt) × (vni_by s f ≡ Some y)
         back y e =
@@ -197,6 +270,7 @@ module _ (r : Rows) (learnt : List Learnt) (rows : IsRows r) (sound : Sound r) (
         there (fact.Vni vni switch) y is e = cc
         there (fact.Bind port vlan switch lists) y is e = cc
         there (fact.Flood switch group addresses) y is e = cc
+        there (fact.Acl acl entries) y is e = cc
 
         back : (y : Place) → place_at m s a ≡ Some y → (f : Fact) × IsIn f (built r learnt) × (place_by s a f ≡ Some y)
         back y e = (fact.Mac s a y, found_built r learnt rows sound once s a y (same ∙ e), passes ((s == s) && (a == a)) y (both (s == s) (a == a) (number_itself s) (number_itself a)))
@@ -230,6 +304,7 @@ module _ (r : Rows) (learnt : List Learnt) (rows : IsRows r) (sound : Sound r) (
         there (fact.Vni vni switch) y is e = cc
         there (fact.Bind port vlan switch lists) y is e = cc
         there (fact.Mac switch mac place) y is e = cc
+        there (fact.Acl acl entries) y is e = cc
 
         back : (y : List ℕ) → some_list (flood_at m s g) ≡ Some y → (f : Fact) × IsIn f (built r learnt) × (flood_by s g f ≡ Some y)
         back y e = (

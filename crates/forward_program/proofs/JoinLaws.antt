@@ -36,7 +36,7 @@ never x a e f = let clash : None ≡ Some a = sym e ∙ f in cc
 
 -- ---- tests that hold together
 
-same_test : (b c : Bool) → (b ≡ true → c ≡ true) → (c ≡ true → b ≡ true) → b ≡ c
+pub same_test : (b c : Bool) → (b ≡ true → c ≡ true) → (c ≡ true → b ≡ true) → b ≡ c
 same_test true c f g = sym (f refl)
 same_test false true f g = g refl
 same_test false false f g = refl

@@ -1,4 +1,5 @@
 pub mod RowsThere
+pub mod AclEntries
 pub mod Bounds
 pub mod Puts
 pub mod PortEntries
@@ -11,6 +12,7 @@ pub mod MapLists
 pub mod Columns
 pub mod Unique
 pub mod HostLaws
+pub mod AclPlaces
 pub mod Known
 pub mod PairSearch
 pub mod PortAt
@@ -19,12 +21,14 @@ pub mod InChange
 pub mod Clearing
 pub mod Followed
 pub mod Asked
+pub mod AclsFollowed
 pub mod Led
 pub mod SameLaws
 pub mod Moves
 pub mod ClearRows
 pub mod Walks
 pub mod JoinLaws
+pub mod ListedLaws
 pub mod FactLaws
 pub mod Once
 pub mod Told

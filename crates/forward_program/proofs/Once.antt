@@ -1,5 +1,5 @@
 -- Each fact stands once, since it stands at its own place.
-use Rattle.std.proofs.Common.{◌≡◌, ℕ, Bool, true, false, T, List, [], ◌∷◌, map, Option, Some, None, refl, sym, ap, ◌∙◌, subst}
+use Rattle.std.proofs.Common.{◌≡◌, ℕ, Bool, true, false, T, List, [], ◌∷◌, map, Option, Some, None, refl, sym, ap, ◌∙◌, subst, if◌then◌else◌}
 use Rattle.std.specs.List.{filter_map, cons_option}
 use Rattle.std.specs.Option.{option_map}
 use Rattle.std.specs.Cmp.{Equal-is, eq_by_cmp_equiv}
@@ -22,7 +22,7 @@ use Rattle.forward_program.specs.declared.facts.Place.{Place}
 use Rattle.forward_program.specs.Built.{IsIn, AreApart, if_bound, flood_to, acl_rows, built}
 use Rattle.forward_program.specs.Spots.{Entries, spot_cmp, spot_total}
 use Rattle.forward_program.specs.Shown.{shown}
-use Rattle.forward_program.specs.Joins.{Bound, bound_at, network_at, found_at, flood_at, is_bound_at, fact_at, facts_of}
+use Rattle.forward_program.specs.Joins.{Bound, bound_at, network_at, found_at, flood_at, rules_at, is_bound_at, is_listed_at, fact_at, facts_of}
 use Rattle.forward_program.proofs.InLists.{in_map, in_picked}
 use Rattle.forward_program.proofs.Unique.{map_of}
 use Rattle.forward_program.proofs.Walks.{below_in}
@@ -33,6 +33,7 @@ spot_of (fact.Vni vni switch) = spot.Vni vni
 spot_of (fact.Bind port vlan switch lists) = spot.Port port vlan
 spot_of (fact.Mac switch mac place) = spot.Switch switch (part.Host mac)
 spot_of (fact.Flood switch group addresses) = spot.Switch switch (part.Group group)
+spot_of (fact.Acl acl entries) = spot.Acl acl
 
 flood_place : (b : Bool) (s : ℕ) (g : Option ℕ) (ips : List ℕ) (f : Fact) → if_bound b (flood_to s g ips) ≡ Some f → spot_of f ≡ spot.Switch s (part.Group g)
 flood_place true s g [] f is = cc
@@ -53,7 +54,14 @@ its_place m (spot.Switch s (part.Member p v)) f is = cc
 its_place m (spot.Vni n) f is = let x = map_of (fact.Vni n) (network_at m n) f is in ap spot_of x.2
 its_place m (spot.Set i) f is = cc
 its_place m (spot.Locator i) f is = cc
-its_place m (spot.Acl i) f is = cc
+its_place m (spot.Acl i) f is =
+    let listed = passed (is_listed_at m i) (option_map (fact.Acl i) (rules_at m i)) f is in
+    let x = map_of (fact.Acl i) (rules_at m i) f listed in
+    ap spot_of x.2
+  where
+    passed : (b : Bool) (o : Option Fact) (g : Fact) → (if b then o else None) ≡ Some g → o ≡ Some g
+    passed true o g e = e
+    passed false o g e = cc
 
 keys_apart : (es : List (Spot × Held)) → T (is_sorted spot_cmp es) → AreApart (map (λ (e : Spot × Held). e.0) es)
 keys_apart [] sorted = tt

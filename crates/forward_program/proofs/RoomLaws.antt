@@ -13,9 +13,10 @@ use Rattle.forward_program.specs.declared.held.Held.{Held}
 use Rattle.forward_program.specs.declared.held.Lists.{Lists}
 use Rattle.forward_program.specs.declared.looks.Step.{Step}
 use Rattle.forward_program.specs.declared.looks.Step.TheVariants as step
+use Rattle.forward_program.specs.Built.{acl_rows}
 use Rattle.forward_program.specs.Spots.{spot_cmp, Entries}
 use Rattle.forward_program.specs.Joins.{Port, part_step, step_of, after_step, members_from, members_at}
-use Rattle.forward_program.specs.Hop.{ways_at}
+use Rattle.forward_program.specs.Hop.{Listed, ways_at}
 use Rattle.forward_program.specs.Hops.{Hops}
 use Rattle.forward_program.specs.Rooms.{is_binding, Lacks}
 
@@ -83,7 +84,7 @@ few_at m switch =
     )
 
 pub few_ports : (m : Entries) (switch : ℕ) → length ((ways_at m).ports switch) ≤ count_by is_binding m.list
-few_ports m switch = omega (arith, few_at m switch, length-map (members_at m switch) (λ (b : Port × Lists). b.0))
+few_ports m switch = omega (arith, few_at m switch, length-map {B = Listed} (members_at m switch) (λ (b : Port × Lists). (b.0, acl_rows b.1)))
 
 pub lacks_ports : (m : Entries) (switch : ℕ) (out : Hops) → out.ports ≡ [] → out.port_room < length out.ports + length ((ways_at m).ports switch) → Lacks m out
 lacks_ports m switch out none full =

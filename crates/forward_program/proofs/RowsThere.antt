@@ -58,17 +58,30 @@ module _ {A : Type 0} (r : Rows) (t : Table) where
 
 -- ---- the entries of a table, row by row
 
+module _ (r : Rows) (t : Table) (f : ℕ × Contents → List Entry) where
+  abbrev pub given_by : ℕ → List Entry
+  given_by id = read_at f id (row_at r (t, id))
+
+  pub all_given : (ids left : List ℕ) → left ≡ ids → ids ≡ ids_of t r → flat_map given_by left ≡ flat_map f (rows_of t r)
+  all_given ids left begun is = ap (flat_map given_by) (begun ∙ is) ∙ read_by_id r t f
+
+  pub one_more : (m n : Entries) (id : ℕ) (row : Contents) (rest left : List ℕ) → left ≡ id ∷ rest → Some row ≡ row_at r (t, id) → n ≡ put_all m (f (id, row)) → put_all n (flat_map given_by rest) ≡ put_all m (flat_map given_by left)
+  one_more m n id row rest left is there e = one_given given_by m n id rest left is (e ∙ ap (λ o. put_all m (read_at f id o)) there)
+
 abbrev pub entries_by : Rows → Table → ℕ → ℕ → List Entry
-entries_by r t own id = read_at (row_entries own t) id (row_at r (t, id))
+entries_by r t own = given_by r t (row_entries own t)
 
 pub table_is : (r : Rows) (t : Table) (own : ℕ) (ids left : List ℕ) → own_address r ≡ Some own → left ≡ ids → ids ≡ ids_of t r → flat_map (entries_by r t own) left ≡ table_entries r t
-table_is r t own ids left known begun is =
-    ap (flat_map (entries_by r t own)) (begun ∙ is) ∙ read_by_id r t (row_entries own t) ∙ ap (λ o. flat_map (row_entries (unwrap_or o 0) t) (rows_of t r)) (sym known)
+table_is r t own ids left known begun is = all_given r t (row_entries own t) ids left begun is ∙ ap (λ o. flat_map (row_entries (unwrap_or o 0) t) (rows_of t r)) (sym known)
 
 pub one_row : (r : Rows) (t : Table) (own : ℕ) (m n : Entries) (id : ℕ) (row : Contents) (rest left : List ℕ) → left ≡ id ∷ rest → Some row ≡ row_at r (t, id) → n ≡ put_all m (row_entries own t (id, row))
     → put_all n (flat_map (entries_by r t own) rest) ≡ put_all m (flat_map (entries_by r t own) left)
-one_row r t own m n id row rest left is there e =
-    one_given (entries_by r t own) m n id rest left is (e ∙ ap (λ o. put_all m (read_at (row_entries own t) id o)) there)
+one_row r t own = one_more r t (row_entries own t)
+
+-- rows with one entry each
+pub one_each : {A B : Type 0} (f : A → B) (xs : List A) → flat_map (λ x. f x ∷ []) xs ≡ map f xs
+one_each f [] = refl
+one_each f (x ∷ xs) = ap (λ ys. f x ∷ ys) (one_each f xs)
 
 -- what is left behind the first of it
 pub rest_is : (left : List ℕ) (o : Option ℕ) (rest : List ℕ) {id : ℕ} → o ≡ Some id → YieldsFirst (λ (ids : List ℕ). ids) left o rest → left ≡ id ∷ rest

@@ -21,10 +21,11 @@ use Rattle.forward_program.specs.declared.held.Held.TheVariants as held
 use Rattle.forward_program.specs.declared.held.Lists.{Lists}
 use Rattle.forward_program.specs.declared.looks.Step.{Step}
 use Rattle.forward_program.specs.declared.looks.Step.TheVariants as step
-use Rattle.forward_program.specs.Built.{IsIn}
+use Rattle.forward_program.specs.Built.{IsIn, acl_rows}
 use Rattle.forward_program.specs.contracts.spots.PartOrd.TheImpl as part_order
 use Rattle.forward_program.specs.Spots.{spot_cmp, Entries}
 use Rattle.forward_program.specs.Joins.{Port, step_of, part_step, after_step, members_from, members_at}
+use Rattle.forward_program.specs.Hop.{Listed}
 
 abbrev part_cmp : Part → Part → Ordering
 part_cmp = (part_order.ghosts).cmp
@@ -59,6 +60,7 @@ module _ (s : ℕ) where
   part_found (part.Member a b) (held.Of x) p lists rest h = inr h
   part_found (part.Member a b) (held.Members x) p lists rest h = inr h
   part_found (part.Member a b) (held.Address x) p lists rest h = inr h
+  part_found (part.Member a b) (held.Rules x) p lists rest h = inr h
   part_found part.Itself x p lists rest h = inr h
   part_found (part.Group g) x p lists rest h = absurd h
   part_found (part.Host m) x p lists rest h = absurd h
@@ -133,6 +135,7 @@ module _ (s : ℕ) where
   between (part.Member a b) (held.Of x) p e o = cc
   between (part.Member a b) (held.Members x) p e o = cc
   between (part.Member a b) (held.Address x) p e o = cc
+  between (part.Member a b) (held.Rules x) p e o = cc
   between (part.Group g) h p e o = cc
   between (part.Host m) h p e o = cc
 
@@ -177,8 +180,8 @@ module _ (s : ℕ) where
 
   -- ---- the walk is in order
 
-  abbrev marked : List (Port × Lists) → List (Port × Unit {0})
-  marked bs = map (λ (b : Port × Lists). (b.0, tt {0})) bs
+  abbrev pub marked : List (Port × Lists) → List Listed
+  marked bs = map (λ (b : Port × Lists). (b.0, acl_rows b.1)) bs
 
   so_less : (r : Ordering) → r ≡ Less → T (is_lt r)
   so_less r e = subst (λ q. T (is_lt q)) (sym e) tt

@@ -1,5 +1,5 @@
 -- Access lists, as the rows of a gateway have them (vtep(5), ACL and ACL_entry).
-use Rattle.std.specs.Prelude.{ℕ, ◌+◌, ◌*◌, ◌^◌, Bool, ◌&&◌, nat_lt, ◌==◌, if◌then◌else◌, List, [], ◌∷◌, length, take, drop, filter_map, Option, Some, None, option_and_then, option_map, unwrap_or, codes}
+use Rattle.std.specs.Prelude.{ℕ, ◌+◌, ◌*◌, ◌^◌, nat_lt, if◌then◌else◌, List, [], ◌∷◌, take, drop, filter_map, Option, Some, None, option_and_then, option_map, unwrap_or, codes}
 use Rattle.vtep_base.specs.Reading.{Bytes, same_bytes}
 use Rattle.vtep_base.specs.Addresses.{hex_value}
 use Rattle.vtep_base.specs.declared.shapes.Action.{Action}

@@ -1,6 +1,6 @@
 //! Access lists, as the rows of a gateway have them (vtep(5), ACL and ACL_entry).
 
-ghost use Rattle.std.specs.Prelude.{◌≡◌, ◌≤◌, ◌<◌, ◌+◌, ◌++◌, ◌^◌, length, vec_len, filter_map, option_and_then, IfOk, IfSome, OnOk};
+ghost use Rattle.std.specs.Prelude.{◌≡◌, ◌≤◌, ◌<◌, ◌+◌, ◌++◌, ◌^◌, [], ◌∷◌, length, vec_len, filter_map, option_and_then, IfOk, IfSome, OnOk};
 ghost use Rattle.std.specs.Option.{option_to_list};
 ghost use Rattle.std.specs.List.Sorted.{IsStrictlySortedBy};
 ghost use Rattle.vtep_base.specs.Addresses.{hex_value};
@@ -106,11 +106,13 @@ fn action(row: &Row) -> Action
     }
 }
 
-/// What a row of ACL_entry says.
-fn entry(id: RowId, row: &Row) -> Entry
-    ensures { result ≡ entry_of id row.now }
+/// Adds what a row of ACL_entry says.
+fn push_entry(id: RowId, row: &Row, entries: &mut Vec<Entry>) -> Result<(), OutOfMemory>
+    ensures items { OnOk result
+        (entries.new.items ≡ entries.old.items ++ entry_of id row.now ∷ []) }
+    ensures len { OnOk result (vec_len entries.new ≤ vec_len entries.old + 1) }
 {
-    Entry {
+    let entry = Entry {
         id,
         sequence: full_word(row, Column::EntrySequence).unwrap_or(0),
         direction: direction(row),
@@ -131,29 +133,24 @@ fn entry(id: RowId, row: &Row) -> Entry
         dest_port_max: half_word(row, Column::EntryDestPortMax),
         tcp_flags: half_word(row, Column::EntryTcpFlags),
         tcp_flags_mask: half_word(row, Column::EntryTcpFlagsMask),
-    }
-}
-
-/// The entry that an atom names.
-fn named(rows: &Rows, atom: &Atom) -> Option<Entry>
-    ensures { result ≡ option_and_then (entry_at rows.now) (id_in atom.now) }
-{
-    let Atom::Id(id) = atom else {
-        return None;
     };
-    let row = rows.get(Table::AclEntry, *id)?;
-    Some(entry(*id, row))
+    entries.push(entry)?;
+    Ok(())
 }
 
+/// Adds the entry that an atom names.
 fn push_named(rows: &Rows, atom: &Atom, entries: &mut Vec<Entry>) -> Result<(), OutOfMemory>
     ensures items { OnOk result (entries.new.items ≡ entries.old.items
         ++ option_to_list (option_and_then (entry_at rows.now) (id_in atom.now))) }
     ensures len { OnOk result (vec_len entries.new ≤ vec_len entries.old + 1) }
 {
-    if let Some(entry) = named(rows, atom) {
-        entries.push(entry)?;
+    let Atom::Id(id) = atom else {
+        return Ok(());
+    };
+    match rows.get(Table::AclEntry, *id) {
+        Some(row) => push_entry(*id, row, entries),
+        None => Ok(()),
     }
-    Ok(())
 }
 
 /// The entries that atoms name, in their order.

@@ -49,8 +49,8 @@ pub enum Fact {
         mac: Mac,
         place: Place,
     },
-    /// Where frames of a bound switch to a group address are sent, or, where the group is None, those to an individual address
-    /// that is not known and to a group without a fact of its own.
+    /// Where frames of a bound switch to a group address are sent, or, where the group is None,
+    /// those to an individual address that is not known and to a group without a fact of its own.
     Flood {
         switch: RowId,
         group: Option<Mac>,

@@ -34,7 +34,8 @@ use vtep_base::{Counted, Ipv4, Ledger, Name, OutOfMemory, RowId, Steps, Vlan, Vn
 use vtep_rows::{Change, Row, RowChange, Rows};
 use vtep_schema::{Column, Table};
 
-/// The forwarding state of a gateway. Contracts see its entries, and whether want of memory broke it.
+/// The forwarding state of a gateway. Contracts see its entries, and whether want of memory broke
+/// it.
 #[derive(Drop)]
 pub struct Fib<L: Ledger> {
     pub(crate) entries: Counted<L, Spot, Held>,
@@ -447,7 +448,8 @@ impl<L: Ledger> Fib<L> {
         self.broken = broken;
     }
 
-    /// Makes it the state of these rows and learnt addresses, by what differs where the gateway's own address is what it was.
+    /// Makes it the state of these rows and learnt addresses, by what differs where the gateway's
+    /// own address is what it was.
     fn lead(
         &mut self,
         alloc: Global,
@@ -478,8 +480,9 @@ impl<L: Ledger> Fib<L> {
         self.fill_all(alloc, rows, learned, steps)
     }
 
-    /// Follows a commit that led from some sound rows and learnt addresses, of which this is the state, to these, by this change
-    /// of the rows. `moved` has the learnt addresses that came, went or moved. After an `Err` the state is broken.
+    /// Follows a commit that led from some sound rows and learnt addresses, of which this is the
+    /// state, to these, by this change of the rows. `moved` has the learnt addresses that came,
+    /// went or moved. After an `Err` the state is broken.
     pub fn apply(
         &mut self,
         alloc: Global,

@@ -1,11 +1,12 @@
-//! How the forwarding state follows a change: the places of what was in the rows are emptied, then what is in them is put, then the
-//! ACLs that the change touches, and last the learnt list is asked for each address that it may concern.
+//! How the forwarding state follows a change: the places of what was in the rows are emptied, then
+//! what is in them is put, then the ACLs that the change touches, and last the learnt list is asked
+//! for each address that it may concern.
 
 ghost use Rattle.std.specs.Prelude.{◌≡◌, ◌&&◌, ◌==◌, ℕ, List, [], ◌∷◌, true, false, Some, filter_map, flat_map, option_map, IfSome, OnOk};
 ghost use Rattle.std.specs.List.{list_all, list_any};
 ghost use Rattle.std.specs.Option.{option_to_list};
 ghost use Rattle.vtep_schema.specs.Tables.{same_table};
-ghost use Rattle.vtep_rows.specs.Row.{Contents, id_in, put_all};
+ghost use Rattle.vtep_rows.specs.Row.{Contents, id_in, ids_at, put_all};
 ghost use Rattle.vtep_rows.specs.Rows.{Rows as AllRows, IsRows};
 ghost use Rattle.vtep_rows.specs.Sound.{Sound};
 ghost use Rattle.vtep_rows.specs.Changes.{changes};
@@ -22,8 +23,8 @@ ghost use Rattle.forward_program.specs.Same.{same_number};
 
 use crate::fib::Fib;
 use crate::readings::{
-    atoms, bound_to, ip, other_address, port_name, read_group, read_remote, tunnel_key, vlan_and_switch,
-    vlan_pairs,
+    atoms, bound_to, ip, other_address, port_name, read_group, read_remote, tunnel_key,
+    vlan_and_switch, vlan_pairs,
 };
 use crate::spots::{Part, Spot};
 use mac_learning::{Learned, Learnt};
@@ -165,7 +166,8 @@ fn acl_tail(change: &[RowChange]) -> &[RowChange]
 {
     'change: for (at, row) in change.iter().enumerate() {
         if is_of_acl(row) {
-            return &change[at..];
+            let (_, tail) = change.split_at(at);
+            return tail;
         }
     }
     &[]
@@ -195,22 +197,25 @@ fn has_entry(change: &[RowChange], atom: &Atom) -> bool
 }
 
 fn has_some_entry(change: &[RowChange], atoms: &[Atom]) -> bool
-    ensures { result ≡ list_any (has_row change.now Table.AclEntry)
-        (filter_map id_in atoms.now) }
+    ensures { result ≡ list_any (λ atom. list_any (has_row change.now Table.AclEntry)
+        (option_to_list (id_in atom))) atoms.now }
 {
-    'atoms: for atom in atoms {
-        if has_entry(change, atom) {
-            return true;
-        }
-    }
-    false
+    atoms.iter().any(|atom| has_entry(change, atom))
+}
+
+/// Whether a change has the row of an entry of an ACL.
+fn has_its_entry(change: &[RowChange], row: &Row) -> bool
+    ensures { result ≡ list_any (has_row change.now Table.AclEntry)
+        (ids_at row.now Column.AclEntries) }
+{
+    has_some_entry(change, atoms(row, Column::AclEntries))
 }
 
 /// Whether a change has the row of an ACL, or that of one of its entries.
 fn is_touched(change: &[RowChange], id: RowId, row: &Row) -> bool
     ensures { result ≡ is_touched change.now (id, row.now) }
 {
-    has_row(change, Table::Acl, id) || has_some_entry(change, atoms(row, Column::AclEntries))
+    has_row(change, Table::Acl, id) || has_its_entry(change, row)
 }
 
 fn gone_acl(change: &RowChange) -> Option<Spot>
@@ -473,8 +478,8 @@ impl<L: Ledger> Fib<L> {
         self.put_touched(alloc, rows, change, steps)
     }
 
-    /// Makes it the state after a change that keeps the gateway's own address. What a remote row had is put anew before the learnt
-    /// list is asked for its address.
+    /// Makes it the state after a change that keeps the gateway's own address. What a remote row
+    /// had is put anew before the learnt list is asked for its address.
     pub(crate) fn follow(
         &mut self,
         alloc: Global,

@@ -365,12 +365,13 @@ impl<L: Ledger> Fib<L> {
         }
     }
 
-    /// Whether a frame may enter at a VLAN of a port, and the switch that it then comes to: the VLAN is bound, and each list of
-    /// its binding permits the frame to come in. Takes no memory.
+    /// Whether a frame may enter at a VLAN of a port, and the switch that it then comes to: the
+    /// VLAN is bound, and each list of its binding permits the frame to come in. Takes no memory.
     pub fn admit(&self, port: Name, vlan: Vlan, inner: &Inner<'_>) -> Admission
         ensures admission { result
             ≡ admission (ways_at self.now.entries) (port, vlan) inner.now }
-        // Of sound rows it is what the facts say that are built from the rows and the learnt addresses.
+        // Of sound rows it is what the facts say that are built from the rows and the learnt
+        // addresses.
         ensures built { (r : AllRows) → (l : List Learnt) → IsRows r → Sound r → IsOnce l
             → self.now.entries ≡ shown r l
             → result ≡ admission (ways_of (built r l)) (port, vlan) inner.now }
@@ -447,10 +448,11 @@ impl<L: Ledger> Fib<L> {
 
     /// Where a frame goes. What `out` held before is taken out first.
     ///
-    /// From a port it goes nowhere where the VLAN is not bound, or a list of its binding does not permit it to come in. A frame to its
-    /// own source goes nowhere; one to an address with a place goes there; each other one goes to all other bindings of its
-    /// switch and, from a port, in a packet to each address of the group's fact or else of that for destinations that are
-    /// not known. Of the bindings those are left out whose lists do not permit it to go out.
+    /// From a port it goes nowhere where the VLAN is not bound, or a list of its binding does not
+    /// permit it to come in. A frame to its own source goes nowhere; one to an address with a place
+    /// goes there; each other one goes to all other bindings of its switch and, from a port, in a
+    /// packet to each address of the group's fact or else of that for destinations that are not
+    /// known. Of the bindings those are left out whose lists do not permit it to go out.
     pub fn hop(
         &self,
         origin: Origin,
@@ -460,7 +462,8 @@ impl<L: Ledger> Fib<L> {
         requires going { self.now.broken ≡ false }
         ensures way { IfOk result (λ outcome. HopIs outcome out.new
             (hop (ways_at self.now.entries) origin inner.now)) }
-        // Of sound rows it goes where the facts say that are built from the rows and the learnt addresses.
+        // Of sound rows it goes where the facts say that are built from the rows and the learnt
+        // addresses.
         ensures built { (r : AllRows) → (l : List Learnt) → IsRows r → Sound r → IsOnce l
             → self.now.entries ≡ shown r l → IfOk result (λ outcome. HopIs outcome out.new
             (hop (ways_of (built r l)) origin inner.now)) }
@@ -484,8 +487,8 @@ impl<L: Ledger> Fib<L> {
         count
     }
 
-    /// Makes so much room that a hop by this state takes no memory: for one port more than there are bindings, and for as many
-    /// addresses as a locator set has at most.
+    /// Makes so much room that a hop by this state takes no memory: for one port more than there
+    /// are bindings, and for as many addresses as a locator set has at most.
     pub fn reserve_hops(&self, out: &mut Hops<L>) -> Result<(), OutOfMemory>
         requires going { self.now.broken ≡ false }
         ensures room { OnOk result (HasRoom self.now.entries out.new) }

@@ -40,8 +40,8 @@ pub enum Admission {
     To(RowId),
 }
 
-/// Where a frame goes: out of VLANs of ports, and to addresses in packets of a network. Contracts see the two lists, the network,
-/// and for how many ports and addresses there is room.
+/// Where a frame goes: out of VLANs of ports, and to addresses in packets of a network. Contracts
+/// see the two lists, the network, and for how many ports and addresses there is room.
 #[derive(Drop)]
 pub struct Hops<L: Ledger> {
     of: PhantomData<L>,

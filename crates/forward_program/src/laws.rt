@@ -13,8 +13,9 @@ ghost use Rattle.forward_program.specs.Spots.{Entries};
 ghost use Rattle.forward_program.specs.Shown.{shown};
 ghost use Rattle.forward_program.specs.Joins.{facts_of};
 
-/// The facts that are joined of the entries of sound rows and learnt addresses are those that are built from both, no fact stands
-/// twice, and no address of a switch has two places: where it is learnt, no fact says that it is behind another gateway.
+/// The facts that are joined of the entries of sound rows and learnt addresses are those that are
+/// built from both, no fact stands twice, and no address of a switch has two places: where it is
+/// learnt, no fact says that it is behind another gateway.
 pub fn facts_are_built()
     ensures built { (r : Rows) → (l : List Learnt) → IsRows r → Sound r → IsOnce l → (f : Fact)
         → IsIn f (facts_of (shown r l)) ↔ IsIn f (built r l) }

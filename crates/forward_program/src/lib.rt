@@ -1,4 +1,5 @@
-//! The forwarding state of a gateway, made of its rows and learnt addresses, and where it sends frames.
+//! The forwarding state of a gateway, made of its rows and learnt addresses, and where it sends
+//! frames.
 #![tactic(auto)]
 
 mod acls;

@@ -1,6 +1,6 @@
 //! What the forwarding state says, read off its entries.
 
-ghost use Rattle.std.specs.Prelude.{◌≡◌, ◌≤◌, ◌<◌, ◌+◌, List, length, vec_len, option_map, vec_capacity, MatchResult, Some, IfOk, OnOk, OnErr, ◌↔◌, false};
+ghost use Rattle.std.specs.Prelude.{◌≡◌, ◌==◌, ◌≤◌, ◌<◌, ◌+◌, List, length, vec_len, option_map, vec_capacity, MatchResult, Some, IfOk, OnOk, OnErr, ◌↔◌, false};
 ghost use Rattle.std.specs.List.{filter_map, list_any};
 ghost use Rattle.std.specs.Option.{option_to_list};
 ghost use Rattle.std.specs.Ordering.{nat_cmp};
@@ -195,7 +195,8 @@ impl<L: Ledger> Fib<L> {
         }
     }
 
-    /// Where an address is: a learnt one, or one of a bound switch behind another gateway. Takes no memory.
+    /// Where an address is: a learnt one, or one of a bound switch behind another gateway. Takes no
+    /// memory.
     pub fn find(&self, switch: RowId, mac: Mac) -> Option<Place>
         requires going { self.now.broken ≡ false }
         ensures place { result ≡ found_at self.now.entries switch mac }

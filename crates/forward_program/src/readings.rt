@@ -91,7 +91,8 @@ fn id(row: &Row, column: Column) -> Option<RowId>
     first_id(atoms(row, column))
 }
 
-/// The address that the gateway's own row has in `tunnel_ips` (vtep(5), Physical_Switch). Takes no memory.
+/// The address that the gateway's own row has in `tunnel_ips` (vtep(5), Physical_Switch). Takes no
+/// memory.
 pub fn own_address(rows: &Rows) -> Option<Ipv4>
     ensures { result ≡ own_address rows.now }
 {

@@ -188,8 +188,8 @@ impl<L: Ledger> Sent<L> {
         self.packets = packets;
     }
 
-    /// The frame as it leaves each port, and a packet with it to each address, in place of what was there. After an `Err` there
-    /// is nothing.
+    /// The frame as it leaves each port, and a packet with it to each address, in place of what was
+    /// there. After an `Err` there is nothing.
     pub fn fill(&mut self, hops: &Hops<L>, own: Ipv4, inner: &Inner<'_>) -> Result<(), OutOfMemory>
         requires least { 14 ≤ length inner.now }
         requires most { length inner.now ≤ 9216 }

@@ -18,8 +18,8 @@ pub enum Part {
     Host(Mac),
 }
 
-/// A place of the forwarding state, named by rows. Places are in the order of this text, so that all that belongs to a switch
-/// stands together, its bindings by port and VLAN.
+/// A place of the forwarding state, named by rows. Places are in the order of this text, so that
+/// all that belongs to a switch stands together, its bindings by port and VLAN.
 #[derive(Clone, Copy, PartialEq, Eq, PartialOrd, Ord)]
 pub enum Spot {
     /// A VLAN of a port.

@@ -1,13 +1,14 @@
-use Rattle.std.proofs.Common.{◌≡◌, ◌≤◌, ◌+◌, ◌++◌, length, map}
-use Rattle.forward_program.specs.declared.held.Lists.{Lists}
-use Rattle.forward_program.specs.Joins.{Port, members_from}
-use Rattle.forward_program.specs.Hop.{but, ways_at}
+use Rattle.std.proofs.Common.{◌≡◌, ◌≤◌, ◌+◌, ◌++◌, length}
+use Rattle.forward_program.specs.Joins.{members_from}
+use Rattle.forward_program.specs.Hop.{let_out, but, ways_at}
 use Rattle.forward_program.specs.Rooms.{KeepsRoom}
+use Rattle.forward_program.proofs.Buts.{listed}
 use Rattle.forward_program.proofs.fib.Fib.flood_ports.Given as goal
 
 abbrev pub invariant-members : goal.invariant-members
 invariant-members g l = record {
-  ports : l.out.ports ++ but l.from (map (λ (b : Port × Lists). b.0) (members_from l.switch l.spot-iterator)) ≡ l.initial.out.ports ++ but l.from ((ways_at l.self.entries).ports l.switch);
+  ports : l.out.ports ++ but l.from (let_out (ways_at l.self.entries) l.headers (listed (members_from l.switch l.spot-iterator)))
+      ≡ l.initial.out.ports ++ but l.from (let_out (ways_at l.self.entries) l.headers ((ways_at l.self.entries).ports l.switch));
   addresses : l.out.addresses ≡ l.initial.out.addresses;
   vni : l.out.vni ≡ l.initial.out.vni;
   kept : KeepsRoom l.initial.out l.out;
