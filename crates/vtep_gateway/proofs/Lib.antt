@@ -23,6 +23,7 @@ pub mod Kept
 pub mod Seeing
 pub mod Led
 pub mod PortCommits
+pub mod Admitted
 pub mod Settling
 pub mod PortAnswers
 pub mod Worked

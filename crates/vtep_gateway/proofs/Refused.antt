@@ -14,6 +14,9 @@ use Rattle.transact_profile.specs.Transaction.{ops_in}
 use Rattle.transact_profile.specs.Finish.{finished}
 use Rattle.ether_frames.specs.declared.FrameFault.{FrameFault}
 use Rattle.ether_frames.specs.Frames.{frame_of}
+use Rattle.forward_program.specs.declared.hops.Admission.{Admission}
+use Rattle.forward_program.specs.declared.hops.Admission.TheVariants as enter
+use Rattle.forward_program.specs.Hop.{admission}
 use Rattle.forward_program.specs.declared.hops.Origin.TheVariants as origin
 use Rattle.forward_program.specs.Readings.{own_ip}
 use Rattle.forward_program.specs.Sent.{Sent}
@@ -60,15 +63,16 @@ sent_quiet : (why : Option Reason) (sent : Sent) → (sent_unless why sent).refu
 sent_quiet None sent = refl
 sent_quiet (Some why) sent = refl
 
-entered_quiet : (g : Gateway) (port : Bytes) (vlan : ℕ) (inner : Bytes) (o : Option ℕ) → (entered g port vlan inner o).answer.refused ≡ None
-entered_quiet g port vlan inner None = refl
-entered_quiet g port vlan inner (Some switch) =
+entered_quiet : (g : Gateway) (port : Bytes) (vlan : ℕ) (inner : Bytes) (a : Admission) → (entered g port vlan inner a).answer.refused ≡ None
+entered_quiet g port vlan inner enter.Unbound = refl
+entered_quiet g port vlan inner enter.Denied = refl
+entered_quiet g port vlan inner (enter.To switch) =
     let s : Seen = with_source g.vtep switch port vlan inner in
     let w = way s.vtep (origin.Port port vlan) inner in
     sent_quiet (why_nowhere w.outcome) (sent_along (own_ip s.vtep.rows) w inner)
 
 frame_quiet : (g : Gateway) (port : Bytes) (f : Result (ℕ × Bytes) FrameFault) → (frame_step g port f).answer.refused ≡ None
-frame_quiet g port (Ok f) = entered_quiet g port f.0 f.1 ((ways g.vtep).bound (port, f.0))
+frame_quiet g port (Ok f) = entered_quiet g port f.0 f.1 (admission (ways g.vtep) (port, f.0) f.1)
 frame_quiet g port (Err fault) = refl
 
 frame_stays : (g : Gateway) (port bytes : Bytes) (b : Bool) → Stays g (cond b (frame_step g port (frame_of bytes)) (refused g NoPort))

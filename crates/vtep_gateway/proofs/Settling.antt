@@ -33,8 +33,11 @@ use Rattle.mac_learning.specs.declared.Learn.TheVariants as learn
 use Rattle.mac_learning.specs.Learning.{entry, found, same_place, learns_by, put, kept_at}
 use Rattle.ether_frames.specs.declared.FrameFault.{FrameFault}
 use Rattle.ether_frames.specs.Frames.{frame_of}
+use Rattle.ether_frames.specs.Headers.{headers_of}
 use Rattle.forward_program.specs.Readings.{own_ip}
-use Rattle.forward_program.specs.Hop.{source}
+use Rattle.forward_program.specs.declared.hops.Admission.{Admission}
+use Rattle.forward_program.specs.declared.hops.Admission.TheVariants as enter
+use Rattle.forward_program.specs.Hop.{source, admission}
 use Rattle.local_tables.specs.LocalRows.{is_individual}
 use Rattle.local_tables.specs.Followed.{Committed, is_named_by_port, is_bound_there}
 use Rattle.local_tables.specs.Following.{is_bound}
@@ -53,6 +56,7 @@ use Rattle.vtep_gateway.specs.Gateway.{Gateway, refused, nothing}
 use Rattle.vtep_gateway.specs.Methods.{method_of, in_database, only, ended, transacted, transact_in, monitor_by, cancel_by, monitor_for, called}
 use Rattle.vtep_gateway.specs.Sessions.{take, take_all, stream_of}
 use Rattle.vtep_gateway.specs.Frames.{ways, entered, frame_step}
+use Rattle.vtep_gateway.proofs.Admitted.{admitted_bound}
 use Rattle.vtep_gateway.specs.Moves.{step, hung_up, port_unless, unport_by}
 use Rattle.vtep_gateway.specs.Ports.{port_named, port_refusal, with_port, without_port}
 use Rattle.vtep_gateway.specs.Learning.{most_learnt, has_room, learns_in, unseen, seen_by, with_source, later, aged}
@@ -201,12 +205,14 @@ source_good v switch port vlan inner before bound named bytes = by (is_group (so
     by true e = before
     by false e = seen_good v new before (source_single inner bytes e) (bound_there v before switch (source inner) port vlan v.clock bound) named
 
-entered_good : (g : Gateway) (port : Bytes) (vlan : ℕ) (inner : Bytes) (o : Option ℕ) → (ways g.vtep).bound (port, vlan) ≡ o → HasGood g.vtep → is_name port ≡ true → are_bytes inner ≡ true → HasGood (entered g port vlan inner o).gateway.vtep
-entered_good g port vlan inner None bound before named bytes = before
-entered_good g port vlan inner (Some switch) bound before named bytes = source_good g.vtep switch port vlan inner before bound named bytes
+entered_good : (g : Gateway) (port : Bytes) (vlan : ℕ) (inner : Bytes) (a : Admission) → admission (ways g.vtep) (port, vlan) inner ≡ a → HasGood g.vtep → is_name port ≡ true → are_bytes inner ≡ true → HasGood (entered g port vlan inner a).gateway.vtep
+entered_good g port vlan inner enter.Unbound may before named bytes = before
+entered_good g port vlan inner enter.Denied may before named bytes = before
+entered_good g port vlan inner (enter.To switch) may before named bytes =
+    source_good g.vtep switch port vlan inner before (admitted_bound (ways g.vtep) (port, vlan) (headers_of inner) ((ways g.vtep).bound (port, vlan)) switch may) named bytes
 
 frame_good : (g : Gateway) (port bytes : Bytes) (f : Result (ℕ × Bytes) FrameFault) → frame_of bytes ≡ f → HasGood g.vtep → is_name port ≡ true → are_bytes bytes ≡ true → HasGood (frame_step g port f).gateway.vtep
-frame_good g port bytes (Ok f) e before named small = entered_good g port f.0 f.1 ((ways g.vtep).bound (port, f.0)) refl before named (frame_bytes bytes f e small)
+frame_good g port bytes (Ok f) e before named small = entered_good g port f.0 f.1 (admission (ways g.vtep) (port, f.0) f.1) refl before named (frame_bytes bytes f e small)
 frame_good g port bytes (Err fault) e before named small = before
 
 on_frame_good : (g : Gateway) (port bytes : Bytes) (b : Bool) → HasGood g.vtep → is_name port ≡ true → are_bytes bytes ≡ true → HasGood (cond b (frame_step g port (frame_of bytes)) (refused g NoPort)).gateway.vtep
