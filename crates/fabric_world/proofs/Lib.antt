@@ -17,3 +17,4 @@ pub mod Frames
 pub mod DeliveryLaw
 pub mod Worked
 pub mod SettledWorked
+pub mod HexWords

@@ -1,10 +1,12 @@
 -- The words that give fields of entries of access lists: a name, `=` and a value.
-use Rattle.std.specs.Prelude.{◌==◌, Bool, if◌then◌else◌, drop, take, position, ℕ, ◌+◌, Option, Some, None, option_map, option_and_then, codes}
+use Rattle.std.specs.Prelude.{◌==◌, Bool, if◌then◌else◌, List, [], ◌∷◌, drop, take, position, ℕ, ◌+◌, Option, Some, None, option_map, option_and_then, codes}
 use Rattle.vtep_base.specs.Addresses.{mac_of}
 use Rattle.vtep_base.specs.Reading.{Bytes, same_bytes}
 use Rattle.vtep_base.specs.Texts.{ipv4_of, number_upto}
-use Rattle.vtep_rows.specs.Row.{is_hex_word}
+pub use Rattle.vtep_rows.specs.Row.{is_hex_word}
 use Rattle.fabric_world.specs.declared.fields.AclField.{AclField}
+use Rattle.fabric_world.specs.declared.fields.FieldName.{FieldName}
+use Rattle.fabric_world.specs.declared.fields.FieldName.TheVariants as name
 use Rattle.fabric_world.specs.declared.fields.AclField.TheVariants.{SourceMac, DestMac, Ethertype, SourceIp, SourceMask, DestIp, DestMask, Protocol, IcmpType, IcmpCode, SourcePortMin, SourcePortMax, DestPortMin, DestPortMax, TcpFlags, TcpFlagsMask}
 
 abbrev pub is_word : Bytes → Bytes → Bool
@@ -24,39 +26,59 @@ port_of = number_upto 65535
 abbrev pub flags_of : Bytes → Option ℕ
 flags_of = number_upto 511
 
-abbrev pub address_field : Bytes → Bytes → Option AclField
-address_field name word =
-    if is_word name (codes "source_mac") then option_map SourceMac (mac_of word)
-    else if is_word name (codes "dest_mac") then option_map DestMac (mac_of word)
-    else if is_word name (codes "source_ip") then option_map SourceIp (ipv4_of word)
-    else if is_word name (codes "source_mask") then option_map SourceMask (ipv4_of word)
-    else if is_word name (codes "dest_ip") then option_map DestIp (ipv4_of word)
-    else if is_word name (codes "dest_mask") then option_map DestMask (ipv4_of word)
-    else None
+abbrev pub field_text : FieldName → Bytes
+field_text name.SourceMac = codes "source_mac"
+field_text name.DestMac = codes "dest_mac"
+field_text name.Ethertype = codes "ethertype"
+field_text name.SourceIp = codes "source_ip"
+field_text name.SourceMask = codes "source_mask"
+field_text name.DestIp = codes "dest_ip"
+field_text name.DestMask = codes "dest_mask"
+field_text name.Protocol = codes "protocol"
+field_text name.IcmpType = codes "icmp_type"
+field_text name.IcmpCode = codes "icmp_code"
+field_text name.SourcePortMin = codes "source_port_min"
+field_text name.SourcePortMax = codes "source_port_max"
+field_text name.DestPortMin = codes "dest_port_min"
+field_text name.DestPortMax = codes "dest_port_max"
+field_text name.TcpFlags = codes "tcp_flags"
+field_text name.TcpFlagsMask = codes "tcp_flags_mask"
 
-abbrev pub number_field : Bytes → Bytes → Option AclField
-number_field name word =
-    if is_word name (codes "protocol") then option_map Protocol (byte_of word)
-    else if is_word name (codes "icmp_type") then option_map IcmpType (byte_of word)
-    else if is_word name (codes "icmp_code") then option_map IcmpCode (byte_of word)
-    else if is_word name (codes "source_port_min") then option_map SourcePortMin (port_of word)
-    else if is_word name (codes "source_port_max") then option_map SourcePortMax (port_of word)
-    else if is_word name (codes "dest_port_min") then option_map DestPortMin (port_of word)
-    else if is_word name (codes "dest_port_max") then option_map DestPortMax (port_of word)
-    else if is_word name (codes "tcp_flags") then option_map TcpFlags (flags_of word)
-    else if is_word name (codes "tcp_flags_mask") then option_map TcpFlagsMask (flags_of word)
-    else None
+abbrev pub field_names : List FieldName
+field_names =
+    name.SourceMac ∷ name.DestMac ∷ name.Ethertype ∷ name.SourceIp ∷ name.SourceMask ∷ name.DestIp ∷ name.DestMask ∷ name.Protocol
+    ∷ name.IcmpType ∷ name.IcmpCode ∷ name.SourcePortMin ∷ name.SourcePortMax ∷ name.DestPortMin ∷ name.DestPortMax ∷ name.TcpFlags ∷ name.TcpFlagsMask ∷ []
 
-abbrev pub first_some : {A : Type 0} → Option A → Option A → Option A
-first_some (Some a) o = Some a
-first_some None o = o
+-- the first of the names that is this word
+abbrev pub name_among : Bytes → List FieldName → Option FieldName
+name_among word [] = None
+name_among word (n ∷ ns) = if is_word word (field_text n) then Some n else name_among word ns
 
--- the field of this name, where there is one and the value has its form
+abbrev pub name_of_field : Bytes → Option FieldName
+name_of_field word = name_among word field_names
+
+-- the value of a field, by its form
+abbrev pub field_value : FieldName → Bytes → Option AclField
+field_value name.SourceMac word = option_map SourceMac (mac_of word)
+field_value name.DestMac word = option_map DestMac (mac_of word)
+field_value name.Ethertype word = option_map Ethertype (ethertype_of word)
+field_value name.SourceIp word = option_map SourceIp (ipv4_of word)
+field_value name.SourceMask word = option_map SourceMask (ipv4_of word)
+field_value name.DestIp word = option_map DestIp (ipv4_of word)
+field_value name.DestMask word = option_map DestMask (ipv4_of word)
+field_value name.Protocol word = option_map Protocol (byte_of word)
+field_value name.IcmpType word = option_map IcmpType (byte_of word)
+field_value name.IcmpCode word = option_map IcmpCode (byte_of word)
+field_value name.SourcePortMin word = option_map SourcePortMin (port_of word)
+field_value name.SourcePortMax word = option_map SourcePortMax (port_of word)
+field_value name.DestPortMin word = option_map DestPortMin (port_of word)
+field_value name.DestPortMax word = option_map DestPortMax (port_of word)
+field_value name.TcpFlags word = option_map TcpFlags (flags_of word)
+field_value name.TcpFlagsMask word = option_map TcpFlagsMask (flags_of word)
+
 abbrev pub field_named : Bytes → Bytes → Option AclField
-field_named name word =
-    if is_word name (codes "ethertype") then option_map Ethertype (ethertype_of word)
-    else first_some (address_field name word) (number_field name word)
+field_named name word = option_and_then (λ n. field_value n word) (name_of_field name)
 
--- the name stands before the first `=`
+-- the name stands before the first `=`, and the value behind it
 abbrev pub field_of : Bytes → Option AclField
 field_of word = option_and_then (λ n. field_named (take n word) (drop (n + 1) word)) (position (λ b. b == 61) word)

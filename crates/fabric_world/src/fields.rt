@@ -45,3 +45,24 @@ pub enum AclField {
     TcpFlags(u16),
     TcpFlagsMask(u16),
 }
+
+/// The names of the fields.
+#[derive(Clone, Copy, Debug, PartialEq, Eq)]
+pub enum FieldName {
+    SourceMac,
+    DestMac,
+    Ethertype,
+    SourceIp,
+    SourceMask,
+    DestIp,
+    DestMask,
+    Protocol,
+    IcmpType,
+    IcmpCode,
+    SourcePortMin,
+    SourcePortMax,
+    DestPortMin,
+    DestPortMax,
+    TcpFlags,
+    TcpFlagsMask,
+}

@@ -11,7 +11,7 @@ mod acls;
 mod fields;
 
 pub use acls::AclMatch;
-pub use fields::{AclField, AclFields};
+pub use fields::{AclField, AclFields, FieldName};
 use vtep_base::{Action, Bytes, Direction, Ipv4, LineReason, Mode, Name, Vlan, Vni};
 
 /// Where a line is refused, and why. Columns count bytes from 1.
