@@ -247,7 +247,7 @@ fn each_once(matching: Matching) -> Result<AclMatch, Refusal>
 }
 
 /// The fields that words give, each with a value in its form, and no field twice.
-pub(crate) fn fields(alloc: Global, words: &[Word<'_>]) -> Result<AclMatch, LineFault>
+pub(crate) fn fields_of(alloc: Global, words: &[Word<'_>]) -> Result<AclMatch, LineFault>
     ensures { Reads result (fields_of (map seen words.now)) }
 {
     let matching = matching(alloc, words)?;

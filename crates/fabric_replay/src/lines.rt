@@ -6,7 +6,7 @@ ghost use Rattle.fabric_world.specs.Lines.{kind_of, kind_among, kind_text, arity
 ghost use Rattle.fabric_world.specs.Text as text;
 ghost use Rattle.fabric_replay.specs.Seen.{seen, Reads, AllFit};
 
-use crate::fields::fields;
+use crate::fields::fields_of;
 use crate::words::{Word, bad_byte};
 use fabric_world::{
     AgeLine, FrameLine, GatewayLine, HangupLine, Instruction, Intent, Kind, Line, PortLine,
@@ -390,7 +390,7 @@ fn acl(alloc: Global, words: &[Word<'_>]) -> Result<Instruction, LineFault>
     let sequence = sequence_at(words, 2)?;
     let direction = direction_at(words, 3)?;
     let action = action_at(words, 4)?;
-    let fields = fields(alloc, behind_five(words))?;
+    let fields = fields_of(alloc, behind_five(words))?;
     Ok(Instruction::Do(Line::Intend(Intent::Acl {
         name,
         sequence,
