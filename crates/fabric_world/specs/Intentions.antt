@@ -49,10 +49,10 @@ places_code = maps.code (binding.the_row).coded (coded_list coded_ℕ)
 
 abbrev pub intention_code : Coded Intention
 intention_code =
-    code_by (Map bytes_cmp Network × Places × Map bytes_cmp (List WantedEntry) × Places)
+    code_by (Map bytes_cmp Network × (Places × (Map bytes_cmp (List WantedEntry) × Places)))
     (coded× (maps.code (coded_list coded_ℕ) (network.the_row).coded)
     (coded× places_code (coded× (maps.code (coded_list coded_ℕ) (coded_list (wanted_entry.the_row).coded)) places_code)))
-    (λ i. (i.switches, i.bindings, i.acls, i.guards)) (λ p. record { switches = p.0; bindings = p.1; acls = p.2; guards = p.3 }) (λ _. refl)
+    (λ i. (i.switches, (i.bindings, (i.acls, i.guards)))) (λ p. record { switches = p.0; bindings = p.1.0; acls = p.1.1.0; guards = p.1.1.1 }) (λ _. refl)
 
 -- ---- refusals
 

@@ -1,6 +1,6 @@
 //! Access lists, as the insertions that make them.
 
-ghost use Rattle.std.specs.Prelude.{◌≡◌, ◌≤◌, ◌+◌, ◌++◌, ◌∷◌, [], map, length, insert, nat_lt, option_map, IfOk, OnOk};
+ghost use Rattle.std.specs.Prelude.{◌≡◌, ◌≤◌, ◌+◌, ◌++◌, ◌∷◌, [], map, length, insert, position, nat_lt, option_map, IfOk, OnOk};
 ghost use Rattle.serde_json.specs.View.{view};
 ghost use Rattle.ovsdb_values.specs.declared.atoms.Atom.TheVariants.{Text};
 ghost use Rattle.vtep_base.specs.Addresses.{mac_text};
@@ -195,18 +195,22 @@ fn entry_json(alloc: Global, number: usize, entry: &WantedEntry) -> Result<Value
     insert_json(alloc, Table::AclEntry, number, values.as_slice())
 }
 
-/// Where an entry goes among entries in order: before the first that has a greater sequence.
+/// The place of the first entry that has a greater sequence.
+fn first_behind(sorted: &[&WantedEntry], entry: &WantedEntry) -> Option<usize>
+    ensures { result ≡ position (λ e. nat_lt entry.now.sequence e.now.sequence) sorted.now }
+{
+    sorted
+        .iter()
+        .position(|other| entry.sequence < other.sequence)
+}
+
+/// Where an entry goes among entries in order.
 fn place_among(sorted: &[&WantedEntry], entry: &WantedEntry) -> usize
     ensures within { result ≤ length sorted.now }
     ensures place { insert (map (λ e. e.now) sorted.now) result entry.now
         ≡ placed entry.now (map (λ e. e.now) sorted.now) }
 {
-    'sorted: for (place, other) in sorted.iter().enumerate() {
-        if entry.sequence < other.sequence {
-            return place;
-        }
-    }
-    sorted.len()
+    first_behind(sorted, entry).unwrap_or(sorted.len())
 }
 
 /// The entries by sequence, and those of one sequence as they are.
@@ -231,10 +235,10 @@ fn insert_entries(
     entries: &[&WantedEntry],
     operations: &mut Vec<Value>,
 ) -> Result<List<Atom>, OutOfMemory>
-    ensures rows { IfOk result (λ rows. rows ≡ numbered (λ n e. new_row n)
-        (length operations.old.items) (map (λ e. e.now) entries.now)) }
+    ensures rows { IfOk result (λ rows. rows
+        ≡ numbered (λ n e. new_row n) (length operations.old.items) entries.now) }
     ensures added { OnOk result (map view operations.new.items ≡ map view operations.old.items
-        ++ numbered entry_json (length operations.old.items) (map (λ e. e.now) entries.now)) }
+        ++ numbered (λ n e. entry_json n e.now) (length operations.old.items) entries.now) }
 {
     let mut rows = List::new(alloc);
     'entries: for entry in entries {

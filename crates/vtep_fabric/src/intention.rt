@@ -139,6 +139,25 @@ impl Intention {
         Ok(())
     }
 
+    /// Takes an access list out and gives its entries, none where it is not there.
+    fn take_acl(&mut self, alloc: Global, name: &Name) -> List<WantedEntry>
+        ensures entries { result ≡ entries_of self.old name.now }
+        ensures taken { self.new ≡ record self.old { acls = maps.remove self.old.acls name.now } }
+    {
+        match self.acls.remove(name) {
+            Some(entries) => entries,
+            None => List::new(alloc),
+        }
+    }
+
+    fn put_acl(&mut self, name: Name, entries: List<WantedEntry>) -> Result<(), OutOfMemory>
+        ensures { OnOk result (self.new
+            ≡ record self.old { acls = maps.insert self.old.acls name entries }) }
+    {
+        self.acls.put(name, entries)?;
+        Ok(())
+    }
+
     /// Adds an entry to an access list, and makes the list where it is not there. After an `Err` the list may be gone.
     fn push_entry(
         &mut self,
@@ -149,12 +168,9 @@ impl Intention {
         ensures { OnOk result (self.new ≡ record self.old
             { acls = maps.insert self.old.acls name (entries_of self.old name ++ entry ∷ []) }) }
     {
-        let mut entries = match self.acls.remove(&name) {
-            Some(entries) => entries,
-            None => List::new(alloc),
-        };
+        let mut entries = self.take_acl(alloc, &name);
         entries.push(entry)?;
-        self.acls.put(name, entries)?;
+        self.put_acl(name, entries)?;
         Ok(())
     }
 
