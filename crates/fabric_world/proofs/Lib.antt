@@ -2,6 +2,7 @@ pub mod TextLaws
 pub mod Steps
 pub mod Lists
 pub mod Ranges
+pub mod FieldRanges
 pub mod LineRanges
 pub mod Reached
 pub mod Switches

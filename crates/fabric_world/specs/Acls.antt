@@ -80,23 +80,35 @@ IsAllowed (TcpFlags n) = AreFlags n
 IsAllowed (TcpFlagsMask n) = AreFlags n
 IsAllowed _ = Unit {0}
 
-pub record AreAllowed (f : AclFields) : Type 0 where
-  pub ethertype : IfSome f.ethertype IsEthertype
-  pub tcp_flags : IfSome f.tcp_flags AreFlags
-  pub tcp_flags_mask : IfSome f.tcp_flags_mask AreFlags
+abbrev pub AreAllowed : AclFields → Type 0
+AreAllowed f = IfSome f.ethertype IsEthertype × IfSome f.tcp_flags AreFlags × IfSome f.tcp_flags_mask AreFlags
 
--- addresses, numbers of bytes and of ports are in the ranges of their types
-pub record AreInRange (f : AclFields) : Type 0 where
-  pub source_mac : IfSome f.source_mac (λ n. n < 2 ^ 48)
-  pub dest_mac : IfSome f.dest_mac (λ n. n < 2 ^ 48)
-  pub source_ip : IfSome f.source_ip (λ n. n < 2 ^ 32)
-  pub source_mask : IfSome f.source_mask (λ n. n < 2 ^ 32)
-  pub dest_ip : IfSome f.dest_ip (λ n. n < 2 ^ 32)
-  pub dest_mask : IfSome f.dest_mask (λ n. n < 2 ^ 32)
-  pub protocol : IfSome f.protocol (λ n. n < 2 ^ 8)
-  pub icmp_type : IfSome f.icmp_type (λ n. n < 2 ^ 8)
-  pub icmp_code : IfSome f.icmp_code (λ n. n < 2 ^ 8)
-  pub source_port_min : IfSome f.source_port_min (λ n. n < 2 ^ 16)
-  pub source_port_max : IfSome f.source_port_max (λ n. n < 2 ^ 16)
-  pub dest_port_min : IfSome f.dest_port_min (λ n. n < 2 ^ 16)
-  pub dest_port_max : IfSome f.dest_port_max (λ n. n < 2 ^ 16)
+-- ---- the ranges of the types
+
+abbrev pub IsMac : ℕ → Type 0
+IsMac n = n < 2 ^ 48
+
+abbrev pub IsIp : ℕ → Type 0
+IsIp n = n < 2 ^ 32
+
+abbrev pub IsByte : ℕ → Type 0
+IsByte n = n < 2 ^ 8
+
+abbrev pub IsPort : ℕ → Type 0
+IsPort n = n < 2 ^ 16
+
+abbrev pub AreMacs : AclFields → Type 0
+AreMacs f = IfSome f.source_mac IsMac × IfSome f.dest_mac IsMac
+
+abbrev pub AreIps : AclFields → Type 0
+AreIps f = IfSome f.source_ip IsIp × IfSome f.source_mask IsIp × IfSome f.dest_ip IsIp × IfSome f.dest_mask IsIp
+
+abbrev pub AreNumbers : AclFields → Type 0
+AreNumbers f = IfSome f.protocol IsByte × IfSome f.icmp_type IsByte × IfSome f.icmp_code IsByte
+
+abbrev pub ArePorts : AclFields → Type 0
+ArePorts f = IfSome f.source_port_min IsPort × IfSome f.source_port_max IsPort × IfSome f.dest_port_min IsPort × IfSome f.dest_port_max IsPort
+
+-- each value that is given is one that its column allows
+abbrev pub AreValues : AclFields → Type 0
+AreValues f = AreAllowed f × AreMacs f × AreIps f × AreNumbers f × ArePorts f

@@ -7,7 +7,7 @@ use Rattle.fabric_world.specs.declared.Intent.TheVariants.{Switch, Bind, Acl, Gu
 use Rattle.fabric_world.specs.declared.Line.{Line}
 use Rattle.fabric_world.specs.declared.Line.TheVariants.{Gateway, Port, Unport, Intend, Frame, Underlay, Age, Rpc, Hangup, Settle, Show}
 use Rattle.fabric_world.specs.declared.Instruction.TheVariants.{Do}
-use Rattle.fabric_world.specs.Acls.{AreAllowed, AreInRange}
+use Rattle.fabric_world.specs.Acls.{AreValues}
 use Rattle.fabric_world.specs.Lines.{read_line}
 
 abbrev pub AreBytes : Bytes → Type 0
@@ -24,7 +24,7 @@ IsSession s = (1 ≤ s) × (s < 2 ^ 32)
 abbrev pub IsIntent : Intent → Type 0
 IsIntent (Switch s vni mode) = IsName s × (vni < 2 ^ 24)
 IsIntent (Bind s g p vlan) = IsName s × IsName g × IsName p × (vlan < 2 ^ 12)
-IsIntent (Acl name sequence direction action fields) = IsName name × (sequence < 2 ^ 32) × AreAllowed fields × AreInRange fields
+IsIntent (Acl name sequence direction action fields) = IsName name × (sequence < 2 ^ 32) × AreValues fields
 IsIntent (Guard g p vlan name) = IsName g × IsName p × (vlan < 2 ^ 12) × IsName name
 IsIntent (Unguard g p vlan) = IsName g × IsName p × (vlan < 2 ^ 12)
 
