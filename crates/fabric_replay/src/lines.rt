@@ -375,12 +375,12 @@ fn bind(words: &[Word<'_>]) -> Result<Instruction, LineFault>
 
 /// The words behind the first five.
 fn behind_five<'a, 'b>(words: &'b [Word<'a>]) -> &'b [Word<'a>]
-    ensures { result.now ≡ drop 5 words.now }
+    ensures { map seen result.now ≡ drop 5 (map seen words.entry.now) }
 {
-    match words.get(5..) {
-        Some(rest) => rest,
-        None => &[],
+    if words.len() <= 5 {
+        return &[];
     }
+    &words[5..]
 }
 
 fn acl(alloc: Global, words: &[Word<'_>]) -> Result<Instruction, LineFault>

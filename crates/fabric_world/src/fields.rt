@@ -2,8 +2,8 @@
 
 use vtep_base::{Ipv4, Mac, Txt};
 
-/// The fields of an entry of an access list: one for each optional column of its row, in the order of the table. A field that is
-/// absent says nothing of a frame.
+/// The fields of an entry of an access list: one for each optional column of its row, in the order
+/// of the table. A field that is absent says nothing of a frame.
 #[derive(Debug, Drop)]
 pub struct AclFields {
     pub source_mac: Option<Mac>,

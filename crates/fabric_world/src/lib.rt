@@ -1,6 +1,6 @@
-//! The definitions of a fabric and of the scripts that run in it, and their laws. There is no code here but the functions
-//! with empty bodies whose contracts are the laws, and the types of data that the code shares with the definitions, with the calls of
-//! the one that keeps a rule.
+//! The definitions of a fabric and of the scripts that run in it, and their laws. There is no code
+//! here but the functions with empty bodies whose contracts are the laws, and the types of data
+//! that the code shares with the definitions, with the calls of the one that keeps a rule.
 #![tactic(auto)]
 
 ghost use Rattle.fabric_world.specs.Delivery.{SettledDelivers, SwitchesAreRows};
@@ -85,7 +85,8 @@ pub struct AgeLine {
     pub seconds: u32,
 }
 
-/// `rpc g session hex`: bytes come from a session of the gateway's database. The session is at least 1.
+/// `rpc g session hex`: bytes come from a session of the gateway's database. The session is at
+/// least 1.
 #[derive(Debug, Drop)]
 pub struct RpcLine {
     pub g: Name,
@@ -126,7 +127,8 @@ pub enum Intent {
         port: Name,
         vlan: Vlan,
     },
-    /// `acl name seq in permit field=value ..`: an access list gets an entry, and is made where it is not there.
+    /// `acl name seq in permit field=value ..`: an access list gets an entry, and is made where it
+    /// is not there.
     Acl {
         name: Name,
         sequence: u32,
@@ -134,7 +136,8 @@ pub enum Intent {
         action: Action,
         fields: AclMatch,
     },
-    /// `guard g p vlan name`: what passes a VLAN of a port goes by an access list. The port may be still to come.
+    /// `guard g p vlan name`: what passes a VLAN of a port goes by an access list. The port may be
+    /// still to come.
     Guard {
         gateway: Name,
         port: Name,
@@ -213,16 +216,19 @@ pub fn cuts_do_not_matter()
     ensures { CutsDoNotMatter }
 {}
 
-/// A law: in every state that lines lead to, where there is one gateway and the tables are settled, a frame that enters at a
-/// binding of the rows leaves exactly where its switch delivers it, each once and in order: at the binding where its destination
-/// is known, else at every other one. Its source is then known where it entered and nowhere else, unless it is the address of a
-/// group or could not be learnt. Bindings are of one switch exactly where they name one row of Logical_Switch.
+/// A law: in every state that lines lead to, where there is one gateway and the tables are settled,
+/// a frame that enters at a binding of the rows leaves exactly where its switch delivers it, each
+/// once and in order: at the binding where its destination is known, else at every other one. Its
+/// source is then known where it entered and nowhere else, unless it is the address of a group or
+/// could not be learnt. Bindings are of one switch exactly where they name one row of
+/// Logical_Switch.
 pub fn settled_delivers()
     ensures delivers { SettledDelivers }
     ensures rows { SwitchesAreRows }
 {}
 
-/// A law: each line that is read of a text has values in the ranges of their types, and `settled_delivers` speaks of such lines.
+/// A law: each line that is read of a text has values in the ranges of their types, and
+/// `settled_delivers` speaks of such lines.
 pub fn read_lines_are_lines()
     ensures { ReadLinesAreLines }
 {}

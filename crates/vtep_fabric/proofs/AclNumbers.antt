@@ -63,10 +63,12 @@ module _ {V A : Type 0} (view : V → Data) (at : A → WantedEntry) where
       let count : length mid ≡ k + length entries =
       sym (length-map mid view) ∙ ap length ops ∙ length-append (map view old) (numbered entry_json k entries) ∙ (λ j. length-map old view j + length_numbered entry_json k entries j) in
       let named : rows ≡ numbered (λ n e. new_row n) k entries = r ∙ numbered_map (λ n e. new_row n) at k sorted ∙ ap (numbered (λ n e. new_row n) k) is in
-      let at_end : n ≡ k + length entries = long ∙ count in
-      (at_end, ap (map view) e ∙ map-append view mid (v ∷ [])
-      ∙ (λ j. ops j ++ (says ∙ (λ i. acl_json (at_end i) name (named i))) j ∷ [])
-      ∙ append_assoc (map view old) (numbered entry_json k entries) (acl_json (k + length entries) name (numbered (λ n e. new_row n) k entries) ∷ []))
+      let at_end : n ≡ k + length entries = long ∙ count in (
+        at_end,
+        ap (map view) e ∙ map-append view mid (v ∷ [])
+            ∙ (λ j. ops j ++ (says ∙ (λ i. acl_json (at_end i) name (named i))) j ∷ [])
+            ∙ append_assoc (map view old) (numbered entry_json k entries) (acl_json (k + length entries) name (numbered (λ n e. new_row n) k entries) ∷ []),
+      )
 
 module _ {V : Type 0} (view : V → Data) (i : Intention) where
   longer : (old new : List V) (entries : List WantedEntry) (name : Bytes) → map view new ≡ map view old ++ with_entries entries (length old) name → length new ≡ suc (length old + length entries)

@@ -124,11 +124,7 @@ fn add_ethertype(
 }
 
 /// Adds the columns of the addresses and types of frames and of packets.
-fn add_addresses(
-    alloc: Global,
-    fields: &AclFields,
-    values: &mut Values,
-) -> Result<(), OutOfMemory>
+fn add_addresses(alloc: Global, fields: &AclFields, values: &mut Values) -> Result<(), OutOfMemory>
     ensures { OnOk result (values.new.items ≡ values.old.items ++ given mac_atom (macs fields.now)
         ++ given Text (ethertypes fields.now) ++ given ip_atom (ips fields.now)) }
 {
@@ -264,7 +260,8 @@ fn acl_json(
     insert_json(alloc, Table::Acl, number, &values)
 }
 
-/// Adds the insertions of the entries of an access list, in their order, and then of the list, and gives its number.
+/// Adds the insertions of the entries of an access list, in their order, and then of the list, and
+/// gives its number.
 fn insert_acl(
     alloc: Global,
     name: &Name,
@@ -283,7 +280,8 @@ fn insert_acl(
     Ok(number)
 }
 
-/// Adds the insertions of access lists, and gives their rows. All operations before them are insertions.
+/// Adds the insertions of access lists, and gives their rows. All operations before them are
+/// insertions.
 pub(crate) fn insert_acls(
     alloc: Global,
     intention: &Intention,

@@ -237,11 +237,12 @@ impl Fabric {
             (lines.Intend (intent.Acl name sequence direction action fields.now))
             self.new [] result }
     {
+        let fields = fields.copy(self.alloc)?;
         let entry = WantedEntry {
             sequence,
             direction,
             action,
-            fields: fields.copy(self.alloc)?,
+            fields,
         };
         self.intention.add_entry(self.alloc, name, entry)
     }

@@ -23,8 +23,9 @@ const MOST_ACLS: usize = 256;
 /// The most entries of an access list.
 const MOST_ENTRIES: usize = 64;
 
-/// The switches by name, the bindings with the names of their switches, the entries of access lists by name, in the order of their
-/// lines, and the guarded bindings with the names of their access lists.
+/// The switches by name, the bindings with the names of their switches, the entries of access lists
+/// by name, in the order of their lines, and the guarded bindings with the names of their access
+/// lists.
 #[derive(Drop)]
 pub(crate) struct Intention {
     pub(crate) switches: Ordered<Name, Network>,
@@ -158,7 +159,8 @@ impl Intention {
         Ok(())
     }
 
-    /// Adds an entry to an access list, and makes the list where it is not there. After an `Err` the list may be gone.
+    /// Adds an entry to an access list, and makes the list where it is not there. After an `Err`
+    /// the list may be gone.
     fn push_entry(
         &mut self,
         alloc: Global,
@@ -189,8 +191,8 @@ impl Intention {
         let _ = self.guards.remove(binding);
     }
 
-    /// Adds a switch. It is refused where its name or its VNI is there, where as many are as may be, and where a service node
-    /// is to replicate for it, since there is none.
+    /// Adds a switch. It is refused where its name or its VNI is there, where as many are as may
+    /// be, and where a service node is to replicate for it, since there is none.
     pub(crate) fn add_switch(&mut self, name: Name, network: Network) -> Result<(), FabricFault>
         ensures ok { OnOk result ((knows : List ℕ → Bool)
             → intended knows self.old (intent.Switch name network.vni network.mode) ≡ Ok self.new) }
@@ -213,8 +215,8 @@ impl Intention {
         Ok(self.put_switch(name, network)?)
     }
 
-    /// Binds a VLAN of a port to a switch. It is refused where the switch or the gateway is unknown, and where that VLAN of
-    /// that port is bound.
+    /// Binds a VLAN of a port to a switch. It is refused where the switch or the gateway is
+    /// unknown, and where that VLAN of that port is bound.
     pub(crate) fn bind(
         &mut self,
         switch: Name,
@@ -242,8 +244,9 @@ impl Intention {
         Ok(self.put_binding(binding, switch)?)
     }
 
-    /// Adds an entry to an access list, and makes the list where it is not there. It is refused where as many lists or entries
-    /// are as may be. Where no memory is found, the list may be gone.
+    /// Adds an entry to an access list, and makes the list where it is not there. It is refused
+    /// where as many lists or entries are as may be. Where no memory is found, the list may be
+    /// gone.
     pub(crate) fn add_entry(
         &mut self,
         alloc: Global,
@@ -267,8 +270,8 @@ impl Intention {
         Ok(self.push_entry(alloc, name, entry)?)
     }
 
-    /// Has an access list guard a VLAN of a port. It is refused where the gateway is unknown, where that VLAN of that port is
-    /// guarded, and where the list is unknown.
+    /// Has an access list guard a VLAN of a port. It is refused where the gateway is unknown, where
+    /// that VLAN of that port is guarded, and where the list is unknown.
     pub(crate) fn guard(
         &mut self,
         binding: Binding,
@@ -296,8 +299,8 @@ impl Intention {
         Ok(self.put_guard(binding, name)?)
     }
 
-    /// Takes the guard of a VLAN of a port away. It is refused where the gateway is unknown, and where that VLAN of that port is
-    /// not guarded.
+    /// Takes the guard of a VLAN of a port away. It is refused where the gateway is unknown, and
+    /// where that VLAN of that port is not guarded.
     pub(crate) fn unguard(&mut self, binding: Binding, is_known: bool) -> Result<(), FabricFault>
         ensures ok { OnOk result ((knows : List ℕ → Bool) → knows binding.gateway ≡ is_known
             → intended knows self.old

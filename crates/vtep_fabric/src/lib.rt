@@ -18,8 +18,8 @@ mod wanted;
 
 pub use fabric::Fabric;
 pub use fabric_world::{
-    AclField, AclFields, AclMatch, AgeLine, FrameLine, GatewayLine, HangupLine, Intent, PortLine, RpcLine, SettleLine, ShowLine,
-    UnderlayLine, UnportLine,
+    AclField, AclFields, AclMatch, AgeLine, FrameLine, GatewayLine, HangupLine, Intent, PortLine,
+    RpcLine, SettleLine, ShowLine, UnderlayLine, UnportLine,
 };
 pub use gateways::Gateways;
 pub use hexadecimal::append_word;

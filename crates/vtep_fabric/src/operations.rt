@@ -143,7 +143,8 @@ fn locator_json(alloc: Global, number: usize, ip: Ipv4) -> Result<Value, OutOfMe
     insert_json(alloc, Table::PhysicalLocator, number, &values)
 }
 
-/// Adds the insertions of locators, and gives their rows. All operations before them are insertions.
+/// Adds the insertions of locators, and gives their rows. All operations before them are
+/// insertions.
 fn insert_locators(
     alloc: Global,
     addresses: &[Ipv4],
@@ -206,7 +207,8 @@ impl Intention {
     }
 }
 
-/// Adds the insertions of switches, and gives their rows. All operations before them are insertions.
+/// Adds the insertions of switches, and gives their rows. All operations before them are
+/// insertions.
 fn insert_switches(
     alloc: Global,
     intention: &Intention,
@@ -400,8 +402,8 @@ fn remote_json(
     insert_json(alloc, Table::McastMacsRemote, set + 1, &values)
 }
 
-/// Adds the insertions of sets of locators, each before the row that sends there. Their numbers begin at `first`, and at least
-/// as many operations are before them.
+/// Adds the insertions of sets of locators, each before the row that sends there. Their numbers
+/// begin at `first`, and at least as many operations are before them.
 fn insert_floods(
     alloc: Global,
     locators: &LocatorRows,
@@ -423,7 +425,8 @@ fn insert_floods(
     Ok(())
 }
 
-/// The operations that make these ports, switches, access lists and floods, and the locators of these addresses.
+/// The operations that make these ports, switches, access lists and floods, and the locators of
+/// these addresses.
 fn operations_for(
     alloc: Global,
     intention: &Intention,
@@ -518,7 +521,8 @@ fn request_text(alloc: Global, operations: Vec<Value>) -> Result<Bytes, OutOfMem
     Ok(text)
 }
 
-/// What a gateway is asked to do, as the request of a transaction; none where nothing is wanted of it.
+/// What a gateway is asked to do, as the request of a transaction; none where nothing is wanted of
+/// it.
 pub(crate) fn request_for(
     alloc: Global,
     intention: &Intention,

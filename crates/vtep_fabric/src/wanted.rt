@@ -17,7 +17,8 @@ use vtep_base::{Binding, Ipv4, List, Name, Ordered, OutOfMemory, RowId, Vlan};
 /// A VLAN, and the switch that it is bound to, or the access list that guards it.
 pub(crate) type Bound = (Vlan, Name);
 
-/// The row of a port, its VLANs that are bound with their switches, and those that are guarded with their access lists.
+/// The row of a port, its VLANs that are bound with their switches, and those that are guarded with
+/// their access lists.
 pub(crate) type Port = (RowId, List<Bound>, List<Bound>);
 
 /// A switch with bindings at other gateways, and the addresses of these.
@@ -47,7 +48,8 @@ fn in_order<K: Ord + Drop>(alloc: Global, ordered: BTreeSet<K>) -> Result<List<K
     Ok(list)
 }
 
-/// What the VLANs of a port are bound to. It costs those and a look-up, whatever other bindings there are.
+/// What the VLANs of a port are bound to. It costs those and a look-up, whatever other bindings
+/// there are.
 fn bound_in(
     alloc: Global,
     bindings: &Ordered<Binding, Name>,
