@@ -1,6 +1,6 @@
 -- Lines of sessions are never of session 0.
 use Rattle.std.proofs.Common.{◌≡◌, ℕ, ◌≤◌, ◌-◌, ◌^◌, Bool, true, false, cond, List, Option, Some, None, Result, Ok, Err, refl, ap, subst, arith}
-use Rattle.std.specs.Prelude.{◌==◌, option_and_then, slice_get}
+use Rattle.std.specs.Prelude.{◌==◌, drop, option_and_then, slice_get}
 use Rattle.std.proofs.lemmas.Bool.Decides.{nat_tests}
 use Rattle.vtep_base.specs.Reading.{Bytes}
 use Rattle.vtep_base.specs.Chains.{◌>>=◌}
@@ -10,7 +10,7 @@ use Rattle.fabric_world.specs.declared.Kind.{Kind}
 use Rattle.fabric_world.specs.declared.Kind.TheVariants as kind
 use Rattle.fabric_world.specs.declared.Instruction.{Instruction}
 use Rattle.fabric_world.specs.Text.{Word, words, bad_byte}
-use Rattle.fabric_world.specs.Lines.{not_zero, session_of, seconds_of, mode_of, hex_of, value_at, by_word, word_at, instruction, known_kind, kind_of, first_word, counted, read_words, printable, read_line}
+use Rattle.fabric_world.specs.Lines.{not_zero, session_of, seconds_of, sequence_of, direction_of, action_of, mode_of, hex_of, fields_of, value_at, by_word, word_at, instruction, known_kind, kind_of, first_word, counted, read_words, printable, read_line}
 use Rattle.fabric_replay.specs.Seen.{DoesHaveSession}
 
 -- what a step gives that leads on to an answer
@@ -62,6 +62,13 @@ instruction_session kind.Switch ws i e =
     given Is (word_at name_of ws 1) _ i (λ s es rest. given Is (word_at vni_of ws 2) _ i (λ vni ev more. given Is (word_at mode_of ws 3) _ i (λ mode em last. answer Is _ i last tt) more) rest) e
 instruction_session kind.Bind ws i e =
     given Is (word_at name_of ws 1) _ i (λ s es rest. given Is (word_at name_of ws 2) _ i (λ g eg more. given Is (word_at name_of ws 3) _ i (λ p ep third. given Is (word_at vlan_of ws 4) _ i (λ v ev last. answer Is _ i last tt) third) more) rest) e
+instruction_session kind.Acl ws i e =
+    given Is (word_at name_of ws 1) _ i (λ name en rest. given Is (word_at sequence_of ws 2) _ i (λ sequence es more. given Is (word_at direction_of ws 3) _ i (λ direction ed third. given Is (word_at action_of ws 4) _ i (λ action ea fourth.
+    given Is (fields_of (drop 5 ws)) _ i (λ fields ef last. answer Is _ i last tt) fourth) third) more) rest) e
+instruction_session kind.Guard ws i e =
+    given Is (word_at name_of ws 1) _ i (λ g eg rest. given Is (word_at name_of ws 2) _ i (λ p ep more. given Is (word_at vlan_of ws 3) _ i (λ v ev third. given Is (word_at name_of ws 4) _ i (λ name en last. answer Is _ i last tt) third) more) rest) e
+instruction_session kind.Unguard ws i e =
+    given Is (word_at name_of ws 1) _ i (λ g eg rest. given Is (word_at name_of ws 2) _ i (λ p ep more. given Is (word_at vlan_of ws 3) _ i (λ v ev last. answer Is _ i last tt) more) rest) e
 instruction_session kind.Settle ws i e = answer Is _ i e tt
 instruction_session kind.Frame ws i e =
     given Is (word_at name_of ws 1) _ i (λ g eg rest. given Is (word_at name_of ws 2) _ i (λ p ep more. given Is (word_at hex_of ws 3) _ i (λ bytes eb last. answer Is _ i last tt) more) rest) e

@@ -1,6 +1,7 @@
 //! Scripts: their lines, what the fabric does with them, and the top call.
 #![tactic(auto)]
 
+mod fields;
 mod lines;
 mod packets;
 mod reader;

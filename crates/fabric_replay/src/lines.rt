@@ -1,11 +1,12 @@
 //! What the words of a line say.
 
-ghost use Rattle.std.specs.Prelude.{◌≡◌, ◌≤◌, ◌<◌, map, Ok, Err, None, Some, MatchResult, IfOk, length, slice_get};
+ghost use Rattle.std.specs.Prelude.{◌≡◌, ◌≤◌, ◌<◌, map, drop, Ok, Err, None, Some, MatchResult, IfOk, length, slice_get};
 ghost use Rattle.vtep_base.specs.Texts.{name_of, ipv4_of, vni_of, vlan_of};
-ghost use Rattle.fabric_world.specs.Lines.{kind_of, kind_text, arity, mode_of, session_of, seconds_of, hex_of, value_at, word_at, column_at, last_end, counted, instruction, read_words, read_line, first_word, known_kind, only_word, read_packet};
+ghost use Rattle.fabric_world.specs.Lines.{kind_of, kind_among, kind_text, arity, takes_fields, mode_of, session_of, seconds_of, sequence_of, direction_of, action_of, hex_of, value_at, word_at, column_at, last_end, counted, instruction, read_words, read_line, first_word, known_kind, only_word, read_packet};
 ghost use Rattle.fabric_world.specs.Text as text;
 ghost use Rattle.fabric_replay.specs.Seen.{seen, Reads, AllFit};
 
+use crate::fields::fields_of;
 use crate::words::{Word, bad_byte};
 use fabric_world::{
     AgeLine, FrameLine, GatewayLine, HangupLine, Instruction, Intent, Kind, Line, PortLine,
@@ -13,7 +14,9 @@ use fabric_world::{
 };
 use hex::FromHexError;
 use std::alloc::Global;
-use vtep_base::{Bytes, Ipv4, LineReason, Mode, Name, OutOfMemory, Vlan, Vni, parse_number};
+use vtep_base::{
+    Action, Bytes, Direction, Ipv4, LineReason, Mode, Name, OutOfMemory, Vlan, Vni, parse_number,
+};
 
 /// Why a line is not read.
 #[derive(Clone, Copy, Debug)]
@@ -44,19 +47,22 @@ impl From<Refusal> for LineFault {
     }
 }
 
-fn refusal(column: usize, reason: LineReason) -> Refusal
+pub(crate) fn refusal(column: usize, reason: LineReason) -> Refusal
     ensures { result ≡ record { column = column; reason = reason } }
 {
     Refusal { column, reason }
 }
 
 /// All kinds of lines.
-const KINDS: [Kind; 13] = [
+const KINDS: [Kind; 16] = [
     Kind::Gateway,
     Kind::Port,
     Kind::Unport,
     Kind::Switch,
     Kind::Bind,
+    Kind::Acl,
+    Kind::Guard,
+    Kind::Unguard,
     Kind::Settle,
     Kind::Frame,
     Kind::Underlay,
@@ -77,6 +83,9 @@ fn kind_text(kind: Kind) -> &'static [u8]
         Kind::Unport => b"unport",
         Kind::Switch => b"switch",
         Kind::Bind => b"bind",
+        Kind::Acl => b"acl",
+        Kind::Guard => b"guard",
+        Kind::Unguard => b"unguard",
         Kind::Settle => b"settle",
         Kind::Frame => b"frame",
         Kind::Underlay => b"underlay",
@@ -88,19 +97,26 @@ fn kind_text(kind: Kind) -> &'static [u8]
     }
 }
 
-/// The kind of a line, by its first word.
-fn kind_of(word: &[u8]) -> Option<Kind>
-    ensures { result ≡ kind_of word.now }
+/// The first of the kinds that has this word.
+fn kind_among(word: &[u8], kinds: &[Kind]) -> Option<Kind>
+    ensures { result ≡ kind_among word.now kinds.now }
 {
-    'kinds: for kind in KINDS {
-        if word == kind_text(kind) {
-            return Some(kind);
+    'kinds: for kind in kinds {
+        if word == kind_text(*kind) {
+            return Some(*kind);
         }
     }
     None
 }
 
-/// How many words follow the first.
+/// The kind of a line, by its first word.
+fn kind_of(word: &[u8]) -> Option<Kind>
+    ensures { result ≡ kind_of word.now }
+{
+    kind_among(word, &KINDS)
+}
+
+/// How many words follow the first, at least.
 fn arity(kind: Kind) -> usize
     ensures value { result ≡ arity kind }
     ensures few { result ≤ 8 }
@@ -108,11 +124,18 @@ fn arity(kind: Kind) -> usize
     match kind {
         Kind::Gateway | Kind::Port | Kind::Unport => 2,
         Kind::Underlay | Kind::Age | Kind::Hangup => 2,
-        Kind::Switch | Kind::Frame | Kind::Rpc => 3,
-        Kind::Bind => 4,
+        Kind::Switch | Kind::Frame | Kind::Rpc | Kind::Unguard => 3,
+        Kind::Bind | Kind::Acl | Kind::Guard => 4,
         Kind::Show => 1,
         Kind::Settle | Kind::End => 0,
     }
+}
+
+/// Whether the fields of an entry may follow.
+fn takes_fields(kind: Kind) -> bool
+    ensures { result ≡ takes_fields kind }
+{
+    matches!(kind, Kind::Acl)
 }
 
 fn word<'a>(words: &[Word<'a>], place: usize) -> Result<Word<'a>, Refusal>
@@ -198,6 +221,34 @@ fn seconds_at(words: &[Word<'_>], place: usize) -> Result<u32, Refusal>
     }
 }
 
+fn sequence_at(words: &[Word<'_>], place: usize) -> Result<u32, Refusal>
+    ensures { result ≡ word_at sequence_of (map seen words.now) place }
+{
+    seconds_at(words, place)
+}
+
+fn direction_at(words: &[Word<'_>], place: usize) -> Result<Direction, Refusal>
+    ensures { result ≡ word_at direction_of (map seen words.now) place }
+{
+    let word = word(words, place)?;
+    match word.bytes {
+        b"in" => Ok(Direction::Ingress),
+        b"out" => Ok(Direction::Egress),
+        _ => Err(refusal(word.column, LineReason::Value)),
+    }
+}
+
+fn action_at(words: &[Word<'_>], place: usize) -> Result<Action, Refusal>
+    ensures { result ≡ word_at action_of (map seen words.now) place }
+{
+    let word = word(words, place)?;
+    match word.bytes {
+        b"permit" => Ok(Action::Permit),
+        b"deny" => Ok(Action::Deny),
+        _ => Err(refusal(word.column, LineReason::Value)),
+    }
+}
+
 /// The bytes that a hexadecimal word at a column stands for; `-` is no bytes.
 fn hex_value(alloc: Global, column: usize, word: &[u8]) -> Result<Bytes, LineFault>
     ensures { Reads result (value_at column (hex_of word.now)) }
@@ -241,7 +292,7 @@ fn counted(kind: Kind, words: &[Word<'_>]) -> Result<(), Refusal>
         (λ e. counted kind (map seen words.now) ≡ Err e) }
 {
     let wanted = arity(kind) + 1;
-    if words.len() > wanted {
+    if words.len() > wanted && !takes_fields(kind) {
         return Err(refusal(words[wanted].column, LineReason::Words));
     }
     if words.len() < wanted {
@@ -260,6 +311,9 @@ fn instruction(alloc: Global, kind: Kind, words: &[Word<'_>]) -> Result<Instruct
         Kind::Unport => unport(words),
         Kind::Switch => switch(words),
         Kind::Bind => bind(words),
+        Kind::Acl => acl(alloc, words),
+        Kind::Guard => guard(words),
+        Kind::Unguard => unguard(words),
         Kind::Settle => Ok(Instruction::Do(Line::Settle(SettleLine))),
         Kind::Frame => frame(alloc, words),
         Kind::Underlay => underlay(alloc, words),
@@ -313,6 +367,61 @@ fn bind(words: &[Word<'_>]) -> Result<Instruction, LineFault>
     let vlan = vlan_at(words, 4)?;
     Ok(Instruction::Do(Line::Intend(Intent::Bind {
         switch,
+        gateway,
+        port,
+        vlan,
+    })))
+}
+
+/// The words behind the first five.
+fn behind_five<'a, 'b>(words: &'b [Word<'a>]) -> &'b [Word<'a>]
+    ensures { map seen result.now ≡ drop 5 (map seen words.entry.now) }
+{
+    if words.len() <= 5 {
+        return &[];
+    }
+    &words[5..]
+}
+
+fn acl(alloc: Global, words: &[Word<'_>]) -> Result<Instruction, LineFault>
+    ensures { Reads result (instruction Kind.Acl (map seen words.now)) }
+{
+    let name = name_at(words, 1)?;
+    let sequence = sequence_at(words, 2)?;
+    let direction = direction_at(words, 3)?;
+    let action = action_at(words, 4)?;
+    let fields = fields_of(alloc, behind_five(words))?;
+    Ok(Instruction::Do(Line::Intend(Intent::Acl {
+        name,
+        sequence,
+        direction,
+        action,
+        fields,
+    })))
+}
+
+fn guard(words: &[Word<'_>]) -> Result<Instruction, LineFault>
+    ensures { Reads result (instruction Kind.Guard (map seen words.now)) }
+{
+    let gateway = name_at(words, 1)?;
+    let port = name_at(words, 2)?;
+    let vlan = vlan_at(words, 3)?;
+    let name = name_at(words, 4)?;
+    Ok(Instruction::Do(Line::Intend(Intent::Guard {
+        gateway,
+        port,
+        vlan,
+        name,
+    })))
+}
+
+fn unguard(words: &[Word<'_>]) -> Result<Instruction, LineFault>
+    ensures { Reads result (instruction Kind.Unguard (map seen words.now)) }
+{
+    let gateway = name_at(words, 1)?;
+    let port = name_at(words, 2)?;
+    let vlan = vlan_at(words, 3)?;
+    Ok(Instruction::Do(Line::Intend(Intent::Unguard {
         gateway,
         port,
         vlan,

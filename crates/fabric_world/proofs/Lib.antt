@@ -2,6 +2,7 @@ pub mod TextLaws
 pub mod Steps
 pub mod Lists
 pub mod Ranges
+pub mod FieldRanges
 pub mod LineRanges
 pub mod Reached
 pub mod Switches
@@ -18,3 +19,4 @@ pub mod Frames
 pub mod DeliveryLaw
 pub mod Worked
 pub mod SettledWorked
+pub mod HexWords

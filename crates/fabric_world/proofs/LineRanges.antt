@@ -1,6 +1,6 @@
 -- Each line that is read has values in their ranges.
 use Rattle.std.proofs.Common.{◌≡◌, ℕ, ◌≤◌, ◌<◌, ◌^◌, List, Option, Some, None, Result, Ok, Err, refl, ap, subst, arith}
-use Rattle.std.specs.Prelude.{slice_get}
+use Rattle.std.specs.Prelude.{drop, slice_get}
 use Rattle.vtep_base.specs.Reading.{Bytes}
 use Rattle.vtep_base.specs.Chains.{◌>>=◌}
 use Rattle.vtep_base.specs.Texts.{name_of, ipv4_of, vni_of, vlan_of}
@@ -11,9 +11,10 @@ use Rattle.fabric_world.specs.declared.Kind.TheVariants as kind
 use Rattle.fabric_world.specs.declared.Instruction.{Instruction}
 use Rattle.fabric_world.specs.declared.Instruction.TheVariants.{Do, End}
 use Rattle.fabric_world.specs.Text.{Word, words, bad_byte}
-use Rattle.fabric_world.specs.Lines.{session_of, seconds_of, mode_of, hex_of, value_at, by_word, word_at, instruction, known_kind, kind_of, first_word, counted, read_words, printable}
+use Rattle.fabric_world.specs.Lines.{session_of, seconds_of, sequence_of, direction_of, action_of, mode_of, hex_of, fields_of, value_at, by_word, word_at, instruction, known_kind, kind_of, first_word, counted, read_words, printable}
 use Rattle.fabric_world.specs.ReadLines.{AreBytes, IsName, IsSession, IsLine, ReadLinesAreLines}
 use Rattle.fabric_world.proofs.Steps.{same_ok}
+use Rattle.fabric_world.proofs.FieldRanges.{fields_are}
 use Rattle.fabric_world.proofs.Ranges.{upto, session_is, ipv4_small, hex_bytes}
 
 abbrev Is : Instruction → Type 0
@@ -57,6 +58,9 @@ session_at ws place s e = word_gives IsSession session_of session_is (slice_get 
 seconds_at : (ws : List Word) (place n : ℕ) → word_at seconds_of ws place ≡ Ok n → n < 2 ^ 32
 seconds_at ws place n e = word_gives (λ m. m < 2 ^ 32) seconds_of (λ word m is. let most : m ≤ 4294967295 = upto 4294967295 m word is in omega (arith, most)) (slice_get ws place) n e
 
+sequence_at : (ws : List Word) (place n : ℕ) → word_at sequence_of ws place ≡ Ok n → n < 2 ^ 32
+sequence_at ws place n e = seconds_at ws place n e
+
 bytes_at : (ws : List Word) (place : ℕ) (bytes : Bytes) → word_at hex_of ws place ≡ Ok bytes → AreBytes bytes
 bytes_at ws place bytes e = word_gives AreBytes hex_of hex_bytes (slice_get ws place) bytes e
 
@@ -72,6 +76,15 @@ instruction_is kind.Switch ws i e =
 instruction_is kind.Bind ws i e =
     given Is (word_at name_of ws 1) _ i (λ s es rest. given Is (word_at name_of ws 2) _ i (λ g eg more. given Is (word_at name_of ws 3) _ i (λ p ep third. given Is (word_at vlan_of ws 4) _ i (λ v ev last.
     answer _ i last (name_at ws 1 s es, name_at ws 2 g eg, name_at ws 3 p ep, vlan_at ws 4 v ev)) third) more) rest) e
+instruction_is kind.Acl ws i e =
+    given Is (word_at name_of ws 1) _ i (λ name en rest. given Is (word_at sequence_of ws 2) _ i (λ sequence es more. given Is (word_at direction_of ws 3) _ i (λ direction ed third. given Is (word_at action_of ws 4) _ i (λ action ea fourth.
+    given Is (fields_of (drop 5 ws)) _ i (λ fields ef last. answer _ i last (name_at ws 1 name en, sequence_at ws 2 sequence es, fields_are (drop 5 ws) fields ef)) fourth) third) more) rest) e
+instruction_is kind.Guard ws i e =
+    given Is (word_at name_of ws 1) _ i (λ g eg rest. given Is (word_at name_of ws 2) _ i (λ p ep more. given Is (word_at vlan_of ws 3) _ i (λ v ev third. given Is (word_at name_of ws 4) _ i (λ name en last.
+    answer _ i last (name_at ws 1 g eg, name_at ws 2 p ep, vlan_at ws 3 v ev, name_at ws 4 name en)) third) more) rest) e
+instruction_is kind.Unguard ws i e =
+    given Is (word_at name_of ws 1) _ i (λ g eg rest. given Is (word_at name_of ws 2) _ i (λ p ep more. given Is (word_at vlan_of ws 3) _ i (λ v ev last.
+    answer _ i last (name_at ws 1 g eg, name_at ws 2 p ep, vlan_at ws 3 v ev)) more) rest) e
 instruction_is kind.Settle ws i e = answer _ i e tt
 instruction_is kind.Frame ws i e =
     given Is (word_at name_of ws 1) _ i (λ g eg rest. given Is (word_at name_of ws 2) _ i (λ p ep more. given Is (word_at hex_of ws 3) _ i (λ bytes eb last.

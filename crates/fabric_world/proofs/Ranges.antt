@@ -15,7 +15,8 @@ use Rattle.vtep_base.specs.declared.numbers.Octets.TheVariants.{Zero, One, Two, 
 use Rattle.vtep_base.specs.declared.numbers.Dotted.{Dotted}
 use Rattle.vtep_base.proofs.Runs.{runs, read_runs}
 use Rattle.vtep_base.proofs.Within.{number_within}
-use Rattle.fabric_world.specs.Lines.{is_word, not_zero, session_of, hex_of}
+use Rattle.fabric_world.specs.Fields.{is_word}
+use Rattle.fabric_world.specs.Lines.{not_zero, session_of, hex_of}
 use Rattle.fabric_world.specs.ReadLines.{AreBytes, IsSession}
 
 pub same_some : {A : Type 0} (x y : A) → Some x ≡ Some y → x ≡ y

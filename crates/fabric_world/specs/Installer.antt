@@ -1,6 +1,6 @@
 -- The operations by which `settle` writes the intent into the tables of a gateway that has its ports and nothing else (RFC 7047,
--- section 5.2): locators, switches, ports, and the sets that take what is to go everywhere.
-use Rattle.std.specs.Prelude.{ℕ, suc, ◌+◌, pos, Bool, not, ◌&&◌, List, [], ◌∷◌, ◌++◌, map, filter, filter_map, length, Option, Some, None, option_map, unwrap_or, codes, decimal, refl}
+-- section 5.2): locators, switches, access lists, ports, and the sets that take what is to go everywhere.
+use Rattle.std.specs.Prelude.{ℕ, suc, ◌+◌, pos, Bool, not, ◌&&◌, ◌==◌, if◌then◌else◌, List, [], ◌∷◌, ◌++◌, map, filter, filter_map, length, Option, Some, None, option_map, unwrap_or, codes, decimal, refl}
 use Rattle.std.specs.Coded.{Coded, code_by, coded×, coded_ℕ, coded_list}
 use Rattle.std.specs.List.{list_any, flat_map}
 use Rattle.std.specs.BTreeMap.{is_at}
@@ -11,10 +11,15 @@ use Rattle.serde_json.specs.Data.{Data, number, unsigned, string}
 use Rattle.vtep_base.specs.Reading.{Bytes, same_bytes}
 use Rattle.vtep_base.specs.Maps as maps
 use Rattle.vtep_base.specs.Maps.{Map}
+use Rattle.vtep_base.specs.Addresses.{mac_text}
 use Rattle.vtep_base.specs.Texts.{ipv4_text}
 use Rattle.vtep_base.specs.declared.answers.Mode.{Mode}
 use Rattle.vtep_base.specs.declared.answers.Mode.TheVariants.{Source, Service}
 use Rattle.vtep_base.specs.declared.bindings.Binding.{Binding}
+use Rattle.vtep_base.specs.declared.shapes.Action.{Action}
+use Rattle.vtep_base.specs.declared.shapes.Action.TheVariants.{Permit, Deny}
+use Rattle.vtep_base.specs.declared.shapes.Direction.{Direction}
+use Rattle.vtep_base.specs.declared.shapes.Direction.TheVariants.{Ingress, Egress}
 use Rattle.json_notation.specs.Json.{list, fields}
 use Rattle.ovsdb_values.specs.declared.atoms.Atom.{Atom}
 use Rattle.ovsdb_values.specs.declared.atoms.Atom.TheVariants.{Integer, Text, Id, Named}
@@ -23,17 +28,19 @@ use Rattle.ovsdb_values.specs.declared.datums.Datum.TheVariants as datum
 use Rattle.ovsdb_values.specs.Sets.{one, set_of, map_of}
 use Rattle.ovsdb_values.specs.Notation.{atom_json, datum_json}
 use Rattle.vtep_schema.specs.declared.Table.{Table}
-use Rattle.vtep_schema.specs.declared.Table.TheVariants.{PhysicalPort, LogicalSwitch, McastMacsRemote, PhysicalLocatorSet, PhysicalLocator}
+use Rattle.vtep_schema.specs.declared.Table.TheVariants.{PhysicalPort, LogicalSwitch, McastMacsRemote, PhysicalLocatorSet, PhysicalLocator, Acl, AclEntry}
 use Rattle.vtep_schema.specs.declared.Column.{Column}
-use Rattle.vtep_schema.specs.declared.Column.TheVariants.{PortVlanBindings, PortAclBindings, LogicalName, LogicalTunnelKey, LogicalReplicationMode, McastRemoteMac, McastRemoteLogicalSwitch, McastRemoteLocatorSet, SetLocators, LocatorEncapsulationType, LocatorDstIp}
+use Rattle.vtep_schema.specs.declared.Column.TheVariants.{PortVlanBindings, PortAclBindings, LogicalName, LogicalTunnelKey, LogicalReplicationMode, McastRemoteMac, McastRemoteLogicalSwitch, McastRemoteLocatorSet, SetLocators, LocatorEncapsulationType, LocatorDstIp, AclName, AclEntries, EntrySequence, EntryDirection, EntryAction, EntrySourceMac, EntryDestMac, EntryEthertype, EntrySourceIp, EntrySourceMask, EntryDestIp, EntryDestMask, EntryProtocol, EntryIcmpType, EntryIcmpCode, EntrySourcePortMin, EntrySourcePortMax, EntryDestPortMin, EntryDestPortMax, EntryTcpFlags, EntryTcpFlagsMask}
 use Rattle.vtep_schema.specs.Tables.{table_name, column_name}
 use Rattle.vtep_rows.specs.Row.{Contents, put_all}
 use Rattle.vtep_rows.specs.Rows.{Rows, rows_of}
 use Rattle.forward_program.specs.Readings.{own_ip, port_name}
 use Rattle.rpc_framing.specs.Said.{Request}
 use Rattle.rpc_framing.specs.Written.{message_text}
+use Rattle.fabric_world.specs.declared.fields.AclFields.{AclFields}
 use Rattle.fabric_world.specs.declared.Network.{Network}
-use Rattle.fabric_world.specs.Intentions.{Intention, bytes_cmp}
+use Rattle.fabric_world.specs.declared.WantedEntry.{WantedEntry}
+use Rattle.fabric_world.specs.Intentions.{Intention, bytes_cmp, binding_cmp, entries_of, in_sequence}
 
 -- a gateway as it is found: its address, and its ports with the identifiers of their rows
 pub record Peer : Type 0 where
@@ -72,7 +79,7 @@ ascending R ks = with_each R [] ks
 abbrev pub is_at_port : Bytes → Bytes → Binding × Bytes → Bool
 is_at_port g p e = same_bytes e.0.gateway g && same_bytes e.0.port p
 
--- a VLAN, and the switch that it is bound to
+-- a VLAN, and the switch that it is bound to, or the access list that guards it
 abbrev pub Bound : Type 0
 Bound = ℕ × Bytes
 
@@ -80,20 +87,24 @@ abbrev pub bound : Binding × Bytes → Bound
 bound e = (e.0.vlan, e.1)
 
 -- what the VLANs of a port are bound to
-abbrev pub bound_at : Intention → Bytes → Bytes → List Bound
-bound_at i g p = map bound (filter (is_at_port g p) i.bindings.list)
+abbrev pub bound_at : Map binding_cmp Bytes → Bytes → Bytes → List Bound
+bound_at bindings g p = map bound (filter (is_at_port g p) bindings.list)
 
--- the row of a port, and what its VLANs are bound to
+-- the row of a port, its VLANs that are bound with their switches, and those that are guarded with their access lists
 abbrev pub Port : Type 0
-Port = ℕ × List Bound
+Port = ℕ × List Bound × List Bound
 
 -- the ports that the gateway has, by name
 abbrev pub ports_at : Intention → Bytes → Peer → List Port
-ports_at i g peer = map (λ p. (p.1, bound_at i g p.0)) peer.ports.list
+ports_at i g peer = map (λ p. (p.1, bound_at i.bindings g p.0, bound_at i.guards g p.0)) peer.ports.list
 
 -- the switches of their bindings, by name
 abbrev pub switches_in : List Port → List Bytes
 switches_in ports = ascending bytes_cmp (flat_map (λ p. map (λ b. b.1) p.1) ports)
+
+-- the access lists that guard them, by name
+abbrev pub acls_in : List Port → List Bytes
+acls_in ports = ascending bytes_cmp (flat_map (λ p. map (λ b. b.1) p.2) ports)
 
 -- a switch, and a gateway at which it has a binding
 abbrev pub Host : Type 0
@@ -172,27 +183,99 @@ switch_values s (Some n) = (LogicalName, one (Text s)) ∷ (LogicalReplicationMo
 abbrev pub switch_json : Intention → ℕ → Bytes → Data
 switch_json i k s = insert_json LogicalSwitch k (switch_values s (maps.get i.switches s))
 
+-- ---- access lists
+
+-- the columns of fields that are given
+abbrev pub given : {A : Type 0} → (A → Atom) → List (Column × Option A) → List (Column × Datum)
+given f columns = filter_map (λ c. option_map (λ a. (c.0, one (f a))) c.1) columns
+
+abbrev pub mac_atom : ℕ → Atom
+mac_atom mac = Text (mac_text mac)
+
+abbrev pub ip_atom : ℕ → Atom
+ip_atom ip = Text (ipv4_text ip)
+
+abbrev pub number_atom : ℕ → Atom
+number_atom n = Integer (pos n)
+
+abbrev pub macs : AclFields → List (Column × Option ℕ)
+macs f = (EntrySourceMac, f.source_mac) ∷ (EntryDestMac, f.dest_mac) ∷ []
+
+abbrev pub ethertypes : AclFields → List (Column × Option Bytes)
+ethertypes f = (EntryEthertype, f.ethertype) ∷ []
+
+abbrev pub ips : AclFields → List (Column × Option ℕ)
+ips f = (EntrySourceIp, f.source_ip) ∷ (EntrySourceMask, f.source_mask) ∷ (EntryDestIp, f.dest_ip) ∷ (EntryDestMask, f.dest_mask) ∷ []
+
+abbrev pub numbers : AclFields → List (Column × Option ℕ)
+numbers f =
+    (EntryProtocol, f.protocol) ∷ (EntryIcmpType, f.icmp_type) ∷ (EntryIcmpCode, f.icmp_code)
+    ∷ (EntrySourcePortMin, f.source_port_min) ∷ (EntrySourcePortMax, f.source_port_max) ∷ (EntryDestPortMin, f.dest_port_min) ∷ (EntryDestPortMax, f.dest_port_max)
+    ∷ (EntryTcpFlags, f.tcp_flags) ∷ (EntryTcpFlagsMask, f.tcp_flags_mask) ∷ []
+
+abbrev pub direction_text : Direction → Bytes
+direction_text Ingress = codes "ingress"
+direction_text Egress = codes "egress"
+
+abbrev pub action_text : Action → Bytes
+action_text Permit = codes "permit"
+action_text Deny = codes "deny"
+
+-- the columns of an entry, but for those that are not given
+abbrev pub entry_values : WantedEntry → List (Column × Datum)
+entry_values e =
+    ((EntrySequence, one (Integer (pos e.sequence))) ∷ (EntryDirection, one (Text (direction_text e.direction))) ∷ (EntryAction, one (Text (action_text e.action))) ∷ [])
+    ++ given mac_atom (macs e.fields) ++ given Text (ethertypes e.fields) ++ given ip_atom (ips e.fields) ++ given number_atom (numbers e.fields)
+
+abbrev pub entry_json : ℕ → WantedEntry → Data
+entry_json k e = insert_json AclEntry k (entry_values e)
+
+-- an access list with the rows of its entries
+abbrev pub acl_json : ℕ → Bytes → List Atom → Data
+acl_json k name rows = insert_json Acl k ((AclEntries, datum.Set (set_of rows)) ∷ (AclName, one (Text name)) ∷ [])
+
+-- the entries of an access list in their order from row k on, and then itself
+abbrev pub with_entries : List WantedEntry → ℕ → Bytes → List Data
+with_entries entries k name = numbered entry_json k entries ++ acl_json (k + length entries) name (numbered (λ n e. new_row n) k entries) ∷ []
+
+abbrev pub wanted_entries : Intention → Bytes → List WantedEntry
+wanted_entries i name = in_sequence (entries_of i name)
+
+-- access lists from row k on
+abbrev pub acls_json : Intention → ℕ → List Bytes → List Data
+acls_json i k [] = []
+acls_json i k (name ∷ names) = with_entries (wanted_entries i name) k name ++ acls_json i (suc (k + length (wanted_entries i name))) names
+
+-- their rows
+abbrev pub acl_rows : Intention → ℕ → List Bytes → List (Bytes × ℕ)
+acl_rows i k [] = []
+acl_rows i k (name ∷ names) = (name, k + length (wanted_entries i name)) ∷ acl_rows i (suc (k + length (wanted_entries i name))) names
+
+-- ---- ports
+
 -- the row of this identifier
 abbrev pub at_id : ℕ → Data
 at_id id = list (list (string (codes "_uuid") ∷ string (codes "==") ∷ atom_json (Id id) ∷ []) ∷ [])
 
--- the switch of each VLAN, as its row
-abbrev pub vlan_bindings : Map bytes_cmp ℕ → List Bound → Datum
-vlan_bindings switches bindings = datum.Map (map_of (map (λ b. (Integer (pos b.0), row_in switches b.1)) bindings))
+-- what each VLAN is bound to, as its row
+abbrev pub bound_rows : Map bytes_cmp ℕ → List Bound → Datum
+bound_rows rows bindings = datum.Map (map_of (map (λ b. (Integer (pos b.0), row_in rows b.1)) bindings))
 
-abbrev pub port_json : Map bytes_cmp ℕ → Port → Data
-port_json switches p =
+-- where switches and access lists have these rows
+abbrev pub port_json : Map bytes_cmp ℕ → Map bytes_cmp ℕ → Port → Data
+port_json switches acls p =
     fields ((codes "op", string (codes "update"))
-    ∷ (codes "row", columns_json ((PortAclBindings, datum.Map []) ∷ (PortVlanBindings, vlan_bindings switches p.1) ∷ []))
+    ∷ (codes "row", columns_json ((PortAclBindings, bound_rows acls p.2) ∷ (PortVlanBindings, bound_rows switches p.1) ∷ []))
     ∷ (codes "table", string (table_name PhysicalPort)) ∷ (codes "where", at_id p.0) ∷ [])
 
--- a port that has bindings
-abbrev pub update_json : Map bytes_cmp ℕ → Port → List Data
-update_json switches (id, []) = []
-update_json switches (id, (b ∷ bs)) = port_json switches (id, b ∷ bs) ∷ []
+-- a port that has bindings or is guarded
+abbrev pub update_json : Map bytes_cmp ℕ → Map bytes_cmp ℕ → Port → List Data
+update_json switches acls p = if (length p.1 == 0) && (length p.2 == 0) then [] else port_json switches acls p ∷ []
 
-abbrev pub ports_json : Map bytes_cmp ℕ → List Port → List Data
-ports_json switches ports = flat_map (update_json switches) ports
+abbrev pub ports_json : Map bytes_cmp ℕ → Map bytes_cmp ℕ → List Port → List Data
+ports_json switches acls ports = flat_map (update_json switches acls) ports
+
+-- ---- floods
 
 abbrev pub set_json : Map nat_cmp ℕ → ℕ → List ℕ → Data
 set_json locators k ips = insert_json PhysicalLocatorSet k ((SetLocators, datum.Set (set_of (map (row_in locators) ips))) ∷ [])
@@ -207,20 +290,23 @@ abbrev pub floods_json : Map nat_cmp ℕ → Map bytes_cmp ℕ → ℕ → List 
 floods_json locators switches k [] = []
 floods_json locators switches k (f ∷ fs) = set_json locators k f.1 ∷ remote_json switches k f.0 ∷ floods_json locators switches (k + 2) fs
 
--- the operations that make these ports, switches, floods, and the locators of these addresses
-abbrev pub operations_for : Intention → List Port → List Bytes → List Flood → List ℕ → List Data
-operations_for i ports switches floods addresses =
+-- the operations that make these ports, switches, access lists, floods, and the locators of these addresses
+abbrev pub operations_for : Intention → List Port → List Bytes → List Bytes → List Flood → List ℕ → List Data
+operations_for i ports switches acls floods addresses =
     let first : ℕ = length addresses in
+    let second : ℕ = first + length switches in
+    let lists : List Data = acls_json i second acls in
     let rows : Map bytes_cmp ℕ = rows_from first switches in
-    numbered locator_json 0 addresses ++ numbered (switch_json i) first switches ++ ports_json rows ports
-    ++ floods_json (rows_from 0 addresses) rows (first + length switches) floods
+    numbered locator_json 0 addresses ++ numbered (switch_json i) first switches ++ lists
+    ++ ports_json rows (put_all maps.empty (acl_rows i second acls)) ports
+    ++ floods_json (rows_from 0 addresses) rows (second + length lists) floods
 
 -- at a gateway with these ports
 abbrev pub operations_of : Intention → Peers → Bytes → List Port → List Data
 operations_of i peers g ports =
     let switches : List Bytes = switches_in ports in
     let floods : List Flood = floods_at (hosts_of i peers) peers g switches in
-    operations_for i ports switches floods (ascending nat_cmp (flat_map (λ f. f.1) floods))
+    operations_for i ports switches (acls_in ports) floods (ascending nat_cmp (flat_map (λ f. f.1) floods))
 
 abbrev pub operations_at : Intention → Peers → Bytes → Option Peer → List Data
 operations_at i peers g None = []

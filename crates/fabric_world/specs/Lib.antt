@@ -1,6 +1,8 @@
 pub mod Text
+pub mod Fields
 pub mod Lines
 pub mod Outputs
+pub mod Acls
 pub mod Intentions
 pub mod Installer
 pub mod Happenings

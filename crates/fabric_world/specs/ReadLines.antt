@@ -3,10 +3,11 @@ use Rattle.std.specs.Prelude.{◌≡◌, ◌≤◌, ◌<◌, ◌^◌, ℕ, true,
 use Rattle.vtep_base.specs.Reading.{Bytes}
 use Rattle.vtep_base.specs.Texts.{is_name}
 use Rattle.fabric_world.specs.declared.Intent.{Intent}
-use Rattle.fabric_world.specs.declared.Intent.TheVariants.{Switch, Bind}
+use Rattle.fabric_world.specs.declared.Intent.TheVariants.{Switch, Bind, Acl, Guard, Unguard}
 use Rattle.fabric_world.specs.declared.Line.{Line}
 use Rattle.fabric_world.specs.declared.Line.TheVariants.{Gateway, Port, Unport, Intend, Frame, Underlay, Age, Rpc, Hangup, Settle, Show}
 use Rattle.fabric_world.specs.declared.Instruction.TheVariants.{Do}
+use Rattle.fabric_world.specs.Acls.{AreValues}
 use Rattle.fabric_world.specs.Lines.{read_line}
 
 abbrev pub AreBytes : Bytes → Type 0
@@ -23,6 +24,9 @@ IsSession s = (1 ≤ s) × (s < 2 ^ 32)
 abbrev pub IsIntent : Intent → Type 0
 IsIntent (Switch s vni mode) = IsName s × (vni < 2 ^ 24)
 IsIntent (Bind s g p vlan) = IsName s × IsName g × IsName p × (vlan < 2 ^ 12)
+IsIntent (Acl name sequence direction action fields) = IsName name × (sequence < 2 ^ 32) × AreValues fields
+IsIntent (Guard g p vlan name) = IsName g × IsName p × (vlan < 2 ^ 12) × IsName name
+IsIntent (Unguard g p vlan) = IsName g × IsName p × (vlan < 2 ^ 12)
 
 abbrev pub IsLine : Line → Type 0
 IsLine (Gateway l) = IsName l.g × (l.ip < 2 ^ 32)

@@ -14,7 +14,7 @@ use Rattle.vtep_gateway.specs.declared.Event.TheVariants as event
 use Rattle.fabric_world.specs.declared.Fault.{Fault}
 use Rattle.fabric_world.specs.declared.Line.{Line}
 use Rattle.fabric_world.specs.declared.Line.TheVariants as line
-use Rattle.fabric_world.specs.Intentions.{Intention, intention_code, refuse_if, intended}
+use Rattle.fabric_world.specs.Intentions.{Intention, intention_code, nothing, refuse_if, intended}
 use Rattle.fabric_world.specs.Happenings.{Gateways, Happening, known, has_ip, event_at, settled}
 use Rattle.fabric_world.specs.Outputs.{Output, Settled, Shown}
 
@@ -33,7 +33,7 @@ world_code =
     (λ w. (w.gateways, (w.intention, w.untouched))) (λ p. record { gateways = p.0; intention = p.1.0; untouched = p.1.1 }) (λ _. refl)
 
 abbrev pub start : World
-start = record { gateways = maps.empty; intention = record { switches = maps.empty; bindings = maps.empty }; untouched = true }
+start = record { gateways = maps.empty; intention = nothing; untouched = true }
 
 -- a state, and what is written on the way to it
 pub record Outcome : Type 0 where

@@ -1,12 +1,18 @@
-//! The definitions of a fabric and of the scripts that run in it, and their laws. There is no code here but the functions
-//! with empty bodies whose contracts are the laws, and the types of data that the code shares with the definitions.
+//! The definitions of a fabric and of the scripts that run in it, and their laws. There is no code
+//! here but the functions with empty bodies whose contracts are the laws, and the types of data
+//! that the code shares with the definitions, with the calls of the one that keeps a rule.
 #![tactic(auto)]
 
 ghost use Rattle.fabric_world.specs.Delivery.{SettledDelivers, SwitchesAreRows};
 ghost use Rattle.fabric_world.specs.Pieces.{CutsDoNotMatter};
 ghost use Rattle.fabric_world.specs.ReadLines.{ReadLinesAreLines};
 
-use vtep_base::{Bytes, Ipv4, LineReason, Mode, Name, Vlan, Vni};
+mod acls;
+mod fields;
+
+pub use acls::AclMatch;
+pub use fields::{AclField, AclFields, FieldName};
+use vtep_base::{Action, Bytes, Direction, Ipv4, LineReason, Mode, Name, Vlan, Vni};
 
 /// Where a line is refused, and why. Columns count bytes from 1.
 #[derive(Clone, Copy, Debug, PartialEq, Eq)]
@@ -23,6 +29,9 @@ pub enum Kind {
     Unport,
     Switch,
     Bind,
+    Acl,
+    Guard,
+    Unguard,
     Settle,
     Frame,
     Underlay,
@@ -76,7 +85,8 @@ pub struct AgeLine {
     pub seconds: u32,
 }
 
-/// `rpc g session hex`: bytes come from a session of the gateway's database. The session is at least 1.
+/// `rpc g session hex`: bytes come from a session of the gateway's database. The session is at
+/// least 1.
 #[derive(Debug, Drop)]
 pub struct RpcLine {
     pub g: Name,
@@ -102,7 +112,7 @@ pub struct ShowLine {
 }
 
 /// What an operator wants.
-#[derive(Clone, Copy, Debug)]
+#[derive(Debug, Drop)]
 pub enum Intent {
     /// `switch s vni mode`: a logical switch.
     Switch {
@@ -113,6 +123,29 @@ pub enum Intent {
     /// `bind s g p vlan`: a VLAN of a port belongs to a switch. The port may be still to come.
     Bind {
         switch: Name,
+        gateway: Name,
+        port: Name,
+        vlan: Vlan,
+    },
+    /// `acl name seq in permit field=value ..`: an access list gets an entry, and is made where it
+    /// is not there.
+    Acl {
+        name: Name,
+        sequence: u32,
+        direction: Direction,
+        action: Action,
+        fields: AclMatch,
+    },
+    /// `guard g p vlan name`: what passes a VLAN of a port goes by an access list. The port may be
+    /// still to come.
+    Guard {
+        gateway: Name,
+        port: Name,
+        vlan: Vlan,
+        name: Name,
+    },
+    /// `unguard g p vlan`: it goes by none any more.
+    Unguard {
         gateway: Name,
         port: Name,
         vlan: Vlan,
@@ -158,6 +191,19 @@ pub struct Network {
     pub mode: Mode,
 }
 
+/// An entry of an access list of the intent.
+#[derive(Debug, Drop)]
+pub struct WantedEntry {
+    /// The place among the entries: lower numbers come first.
+    pub sequence: u32,
+    /// Which way a frame passes the port.
+    pub direction: Direction,
+    /// What becomes of a frame.
+    pub action: Action,
+    /// What is looked at.
+    pub fields: AclMatch,
+}
+
 /// Why the fabric refuses a line: the reason, and the place of its word in the line, from 0.
 #[derive(Clone, Copy, Debug, PartialEq, Eq)]
 pub struct Fault {
@@ -170,16 +216,19 @@ pub fn cuts_do_not_matter()
     ensures { CutsDoNotMatter }
 {}
 
-/// A law: in every state that lines lead to, where there is one gateway and the tables are settled, a frame that enters at a
-/// binding of the rows leaves exactly where its switch delivers it, each once and in order: at the binding where its destination
-/// is known, else at every other one. Its source is then known where it entered and nowhere else, unless it is the address of a
-/// group or could not be learnt. Bindings are of one switch exactly where they name one row of Logical_Switch.
+/// A law: in every state that lines lead to, where there is one gateway and the tables are settled,
+/// a frame that enters at a binding of the rows leaves exactly where its switch delivers it, each
+/// once and in order: at the binding where its destination is known, else at every other one. Its
+/// source is then known where it entered and nowhere else, unless it is the address of a group or
+/// could not be learnt. Bindings are of one switch exactly where they name one row of
+/// Logical_Switch.
 pub fn settled_delivers()
     ensures delivers { SettledDelivers }
     ensures rows { SwitchesAreRows }
 {}
 
-/// A law: each line that is read of a text has values in the ranges of their types, and `settled_delivers` speaks of such lines.
+/// A law: each line that is read of a text has values in the ranges of their types, and
+/// `settled_delivers` speaks of such lines.
 pub fn read_lines_are_lines()
     ensures { ReadLinesAreLines }
 {}

@@ -9,7 +9,7 @@ use Rattle.vtep_base.specs.Maps as maps
 use Rattle.vtep_base.specs.Maps.{Map}
 use Rattle.vtep_rows.specs.Row.{put_all}
 use Rattle.fabric_world.specs.Intentions.{Intention, bytes_cmp}
-use Rattle.fabric_world.specs.Installer.{Port, Flood, numbered, rows_from, locator_json, switch_json, ports_json, set_json, remote_json, floods_json, operations_for}
+use Rattle.fabric_world.specs.Installer.{Port, Flood, numbered, rows_from, locator_json, switch_json, update_json, ports_json, set_json, remote_json, floods_json, acls_json, acl_rows, operations_for}
 use Rattle.vtep_fabric.proofs.Ascending.{dropped}
 
 length_numbered : {A B : Type 0} (f : ℕ → A → B) (k : ℕ) (xs : List A) → length (numbered f k xs) ≡ length xs
@@ -22,6 +22,13 @@ pub one_row : {K : Type 0} {R : K → K → Ordering} (rows after all : Map R �
 one_row rows after all keys i key n m h is e next inv =
     (λ j. put_all (e j) (numbered (λ n key. (key, n)) (next j) (drop (i + 1) keys)))
     ∙ ap (λ ks. put_all rows (numbered (λ n key. (key, n)) n ks)) (sym (dropped keys i key h is)) ∙ inv
+
+-- the update of a port more, where there is one
+pub port_added : (switches acls : Map bytes_cmp ℕ) (old new all : List Data) (ports : List Port) (i : ℕ) (p : Port) → i < length ports → p ≡ get_or ports i p → new ≡ old ++ update_json switches acls p
+    → old ++ ports_json switches acls (drop i ports) ≡ all → new ++ ports_json switches acls (drop (i + 1) ports) ≡ all
+port_added switches acls old new all ports i p h is e inv =
+    ap (λ ds. ds ++ ports_json switches acls (drop (i + 1) ports)) e ∙ append_assoc old (update_json switches acls p) (ports_json switches acls (drop (i + 1) ports))
+    ∙ ap (λ ps. old ++ ports_json switches acls ps) (sym (dropped ports i p h is)) ∙ inv
 
 module _ {V : Type 0} (view : V → Data) where
   seen_more : (old new : List V) (v : V) → new ≡ old ++ v ∷ [] → map view new ≡ map view old ++ view v ∷ []
@@ -52,20 +59,28 @@ module _ {V : Type 0} (view : V → Data) where
         ∙ ap (λ ys. map view old ++ floods_json locators switches k ys) (sym (dropped fs i f h is)) ∙ inv
 
   -- all of them
-  pub together : (i : Intention) (ports : List Port) (switches : List Bytes) (floods : List Flood) (addresses : List ℕ) (none one two three four : List V) (locators : Map nat_cmp ℕ) (rows : Map bytes_cmp ℕ) (first : ℕ)
+  pub together : (i : Intention) (ports : List Port) (switches acls : List Bytes) (floods : List Flood) (addresses : List ℕ) (none one two three four five : List V)
+      (locators : Map nat_cmp ℕ) (rows lists : Map bytes_cmp ℕ) (first : ℕ)
       → none ≡ [] → locators ≡ rows_from (length none) addresses → map view one ≡ map view none ++ numbered locator_json (length none) addresses
       → rows ≡ rows_from (length one) switches → map view two ≡ map view one ++ numbered (switch_json i) (length one) switches
-      → first ≡ length two → map view three ≡ map view two ++ ports_json rows ports → map view four ≡ map view three ++ floods_json locators rows first floods
-      → map view four ≡ operations_for i ports switches floods addresses
-  together i ports switches floods addresses none one two three four locators rows first empty l a r s f p q =
+      → lists ≡ put_all maps.empty (acl_rows i (length two) acls) → map view three ≡ map view two ++ acls_json i (length two) acls
+      → first ≡ length three → map view four ≡ map view three ++ ports_json rows lists ports → map view five ≡ map view four ++ floods_json locators rows first floods
+      → map view five ≡ operations_for i ports switches acls floods addresses
+  together i ports switches acls floods addresses none one two three four five locators rows lists first empty l a r s t u f p q =
       let sum : List Data = numbered locator_json 0 addresses in
       let ones : map view one ≡ sum = a ∙ (λ j. map view (empty j) ++ numbered locator_json (length (empty j)) addresses) in
       let one_long : length one ≡ length addresses = sym (length-map one view) ∙ ap length ones ∙ length_numbered locator_json 0 addresses in
-      let twos : map view two ≡ sum ++ numbered (switch_json i) (length addresses) switches = s ∙ (λ j. ones j ++ numbered (switch_json i) (one_long j) switches) in
+      let more : List Data = sum ++ numbered (switch_json i) (length addresses) switches in
+      let twos : map view two ≡ more = s ∙ (λ j. ones j ++ numbered (switch_json i) (one_long j) switches) in
       let two_long : length two ≡ length addresses + length switches = sym (length-map two view) ∙ ap length twos ∙ length-append sum (numbered (switch_json i) (length addresses) switches)
       ∙ (λ j. length_numbered locator_json 0 addresses j + length_numbered (switch_json i) (length addresses) switches j) in
+      let list_ops : List Data = acls_json i (length addresses + length switches) acls in
+      let threes : map view three ≡ more ++ list_ops = u ∙ (λ j. twos j ++ acls_json i (two_long j) acls) in
+      let three_long : length three ≡ length addresses + length switches + length list_ops =
+      sym (length-map three view) ∙ ap length threes ∙ length-append more list_ops ∙ ap (λ n. n + length list_ops) (sym (ap length twos) ∙ length-map two view ∙ two_long) in
       let numbers : rows ≡ rows_from (length addresses) switches = r ∙ ap (λ n. rows_from n switches) one_long in
+      let list_rows : lists ≡ put_all maps.empty (acl_rows i (length addresses + length switches) acls) = t ∙ ap (λ n. put_all maps.empty (acl_rows i n acls)) two_long in
       let places : locators ≡ rows_from 0 addresses = l ∙ ap (λ vs. rows_from (length vs) addresses) empty in
-      let threes : map view three ≡ sum ++ numbered (switch_json i) (length addresses) switches ++ ports_json (rows_from (length addresses) switches) ports =
-      p ∙ (λ j. twos j ++ ports_json (numbers j) ports) in
-      q ∙ (λ j. threes j ++ floods_json (places j) (numbers j) ((f ∙ two_long) j) floods)
+      let fours : map view four ≡ more ++ list_ops ++ ports_json (rows_from (length addresses) switches) (put_all maps.empty (acl_rows i (length addresses + length switches) acls)) ports =
+      p ∙ (λ j. threes j ++ ports_json (numbers j) (list_rows j) ports) in
+      q ∙ (λ j. fours j ++ floods_json (places j) (numbers j) ((f ∙ three_long) j) floods)

@@ -11,4 +11,8 @@ pub mod LineAnswers
 pub mod LineEvents
 pub mod LinesDone
 pub mod Carried
+pub mod MacTexts
+pub mod AclLists
+pub mod AclOrder
+pub mod AclNumbers
 mod Worked

@@ -72,6 +72,16 @@ wants_anyway w stopped new line (Err OutOfMemory) ok refused kept = refl
 wants_anyway w stopped new line (Err (Refused word reason)) ok refused kept =
     (not_intended w line (record { word = word; reason = reason }) (refused (maps.has w.gateways)), ap (λ i. let h : Held = record { world = record w { intention = i }; stopped = stopped } in h) kept)
 
+-- where no memory is found, what is wanted may have changed
+pub wants_or_stops : (w : World) (stopped : Bool) (new : Intention) (line : Intent) (answer : Result ⊤ FabricFault)
+    → OnOk answer ((knows : Bytes → Bool) → intended knows w.intention line ≡ Ok new)
+    → IfErr answer (λ f. OrMemory (refusal_of f) (λ why. (knows : Bytes → Bool) → intended knows w.intention line ≡ Err why)) → IfErr answer (λ f. OrMemory (refusal_of f) (λ why. new ≡ w.intention))
+    → Does (record { world = w; stopped = stopped }) (lines.Intend line) (record { world = record w { intention = new }; stopped = stopped }) [] answer
+wants_or_stops w stopped new line (Ok done) ok refused kept = (intends w line new (ok (maps.has w.gateways)), refl)
+wants_or_stops w stopped new line (Err OutOfMemory) ok refused kept = refl
+wants_or_stops w stopped new line (Err (Refused word reason)) ok refused kept =
+    (not_intended w line (record { word = word; reason = reason }) (refused (maps.has w.gateways)), ap (λ i. let h : Held = record { world = record w { intention = i }; stopped = stopped } in h) kept)
+
 -- ---- a gateway is shown
 
 shows : (w : World) (l : ShowLine) (text : Bytes) → Shows w.gateways l.g [] text → Runs w (lines.Show l) w [] text

@@ -3,6 +3,7 @@
 ghost use Rattle.std.specs.Prelude.{◌≡◌, ◌≤◌, true, false, [], map};
 ghost use Rattle.vtep_base.specs.Maps as maps;
 ghost use Rattle.fabric_world.specs.World.{start};
+ghost use Rattle.fabric_world.specs.declared.Intent.TheVariants as intent;
 ghost use Rattle.fabric_world.specs.declared.Line.TheVariants as lines;
 ghost use Rattle.vtep_fabric.specs.Fabrics.{Answers, Does, Finishes};
 
@@ -11,16 +12,28 @@ use crate::intention::Intention;
 use crate::roster::Roster;
 use crate::{FabricFault, refused};
 use fabric_world::{
-    AgeLine, FrameLine, GatewayLine, HangupLine, Intent, Network, PortLine, RpcLine, SettleLine,
-    ShowLine, UnderlayLine, UnportLine,
+    AclMatch, AgeLine, FrameLine, GatewayLine, HangupLine, Intent, Network, PortLine, RpcLine,
+    SettleLine, ShowLine, UnderlayLine, UnportLine, WantedEntry,
 };
 use std::alloc::Global;
 use std::marker::Model;
-use vtep_base::{Binding, Bytes, LineReason, Name, OutOfMemory};
+use vtep_base::{
+    Action, Binding, Bytes, Direction, LineReason, Mode, Name, OutOfMemory, Vlan, Vni,
+};
 use vtep_gateway::Event;
 
 /// The most gateways.
 const MOST_GATEWAYS: usize = 16;
+
+fn binding(gateway: Name, port: Name, vlan: Vlan) -> Binding
+    ensures { result ≡ record { gateway = gateway; port = port; vlan = vlan } }
+{
+    Binding {
+        gateway,
+        port,
+        vlan,
+    }
+}
 
 /// A fabric. Contracts see the state of its world, and whether it is stopped.
 #[derive(Drop)]
@@ -168,25 +181,88 @@ impl Fabric {
     fn change_intention(&mut self, line: &Intent) -> Result<(), FabricFault>
         ensures { Does self.old (lines.Intend line.now) self.new [] result }
     {
-        match *line {
-            Intent::Switch { name, vni, mode } => {
-                self.intention.add_switch(name, Network { vni, mode })
-            }
+        match line {
+            Intent::Switch { name, vni, mode } => self.switch(*name, *vni, *mode),
             Intent::Bind {
                 switch,
                 gateway,
                 port,
                 vlan,
-            } => {
-                let binding = Binding {
-                    gateway,
-                    port,
-                    vlan,
-                };
-                let is_known = self.roster.knows(&gateway);
-                self.intention.bind(switch, binding, is_known)
-            }
+            } => self.bind(*switch, binding(*gateway, *port, *vlan)),
+            Intent::Acl {
+                name,
+                sequence,
+                direction,
+                action,
+                fields,
+            } => self.acl(*name, *sequence, *direction, *action, fields),
+            Intent::Guard {
+                gateway,
+                port,
+                vlan,
+                name,
+            } => self.guard(binding(*gateway, *port, *vlan), *name),
+            Intent::Unguard {
+                gateway,
+                port,
+                vlan,
+            } => self.unguard(binding(*gateway, *port, *vlan)),
         }
+    }
+
+    fn switch(&mut self, name: Name, vni: Vni, mode: Mode) -> Result<(), FabricFault>
+        ensures { Does self.old (lines.Intend (intent.Switch name vni mode)) self.new [] result }
+    {
+        self.intention.add_switch(name, Network { vni, mode })
+    }
+
+    fn bind(&mut self, switch: Name, binding: Binding) -> Result<(), FabricFault>
+        ensures { Does self.old
+            (lines.Intend (intent.Bind switch binding.gateway binding.port binding.vlan))
+            self.new [] result }
+    {
+        let is_known = self.roster.knows(&binding.gateway);
+        self.intention.bind(switch, binding, is_known)
+    }
+
+    fn acl(
+        &mut self,
+        name: Name,
+        sequence: u32,
+        direction: Direction,
+        action: Action,
+        fields: &AclMatch,
+    ) -> Result<(), FabricFault>
+        ensures { Does self.old
+            (lines.Intend (intent.Acl name sequence direction action fields.now))
+            self.new [] result }
+    {
+        let fields = fields.copy(self.alloc)?;
+        let entry = WantedEntry {
+            sequence,
+            direction,
+            action,
+            fields,
+        };
+        self.intention.add_entry(self.alloc, name, entry)
+    }
+
+    fn guard(&mut self, binding: Binding, name: Name) -> Result<(), FabricFault>
+        ensures { Does self.old
+            (lines.Intend (intent.Guard binding.gateway binding.port binding.vlan name))
+            self.new [] result }
+    {
+        let is_known = self.roster.knows(&binding.gateway);
+        self.intention.guard(binding, name, is_known)
+    }
+
+    fn unguard(&mut self, binding: Binding) -> Result<(), FabricFault>
+        ensures { Does self.old
+            (lines.Intend (intent.Unguard binding.gateway binding.port binding.vlan))
+            self.new [] result }
+    {
+        let is_known = self.roster.knows(&binding.gateway);
+        self.intention.unguard(binding, is_known)
     }
 
     /// Bytes come from a session of a gateway's database. They are refused where the gateway is unknown (word 1).

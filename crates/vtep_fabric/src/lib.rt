@@ -3,6 +3,7 @@
 
 ghost use Rattle.std.specs.Prelude.{◌≡◌};
 
+mod acls;
 mod fabric;
 mod gateways;
 mod hexadecimal;
@@ -17,8 +18,8 @@ mod wanted;
 
 pub use fabric::Fabric;
 pub use fabric_world::{
-    AgeLine, FrameLine, GatewayLine, HangupLine, Intent, PortLine, RpcLine, SettleLine, ShowLine,
-    UnderlayLine, UnportLine,
+    AclField, AclFields, AclMatch, AgeLine, FrameLine, GatewayLine, HangupLine, Intent, PortLine,
+    RpcLine, SettleLine, ShowLine, UnderlayLine, UnportLine,
 };
 pub use gateways::Gateways;
 pub use hexadecimal::append_word;

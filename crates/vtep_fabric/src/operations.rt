@@ -16,11 +16,14 @@ ghost use Rattle.vtep_base.specs.Maps as maps;
 ghost use Rattle.vtep_schema.specs.Tables.{column_name};
 ghost use Rattle.vtep_rows.specs.Row.{put_all};
 ghost use Rattle.fabric_world.specs.Intentions.{bytes_cmp};
-ghost use Rattle.fabric_world.specs.Installer.{hosts_of, row_name, new_row, row_in, columns_json, insert_json, numbered, locator_json, mode_text, switch_values, switch_json, at_id, vlan_bindings, port_json, update_json, ports_json, set_json, remote_json, floods_json, operations_for, operations_of, operations, request_text, request_of};
+ghost use Rattle.fabric_world.specs.Installer.{hosts_of, row_name, new_row, row_in, columns_json, insert_json, numbered, locator_json, mode_text, switch_values, switch_json, at_id, bound_rows, port_json, update_json, ports_json, set_json, remote_json, floods_json, operations_for, operations_of, operations, request_text, request_of};
 
+use crate::acls::insert_acls;
 use crate::intention::Intention;
 use crate::peers::Peers;
-use crate::wanted::{Bound, Flood, Hosts, Port, addresses_in, floods_at, ports_at, switches_in};
+use crate::wanted::{
+    Bound, Flood, Hosts, Port, acls_in, addresses_in, floods_at, ports_at, switches_in,
+};
 use fabric_world::Network;
 use itoa::Buffer;
 use ovsdb_values::{Atom, AtomMap, AtomSet, Datum, to_json};
@@ -30,8 +33,8 @@ use std::alloc::Global;
 use vtep_base::{Bytes, Ipv4, Kind, List, Mode, Name, Ordered, OutOfMemory, RowId, Shape, Txt};
 use vtep_schema::{Column, Table, column_name, shape, table_name};
 
-/// The numbers of new rows by the names of their switches.
-type SwitchRows = Ordered<Name, usize>;
+/// The numbers of new rows by the names of their switches or access lists.
+pub(crate) type NamedRows = Ordered<Name, usize>;
 
 /// The numbers of new rows by the addresses of their locators.
 type LocatorRows = Ordered<Ipv4, usize>;
@@ -53,20 +56,20 @@ fn row_name(alloc: Global, number: usize) -> Result<Txt, OutOfMemory>
 }
 
 /// The row of the insertion of this number.
-fn new_row(alloc: Global, number: usize) -> Result<Atom, OutOfMemory>
+pub(crate) fn new_row(alloc: Global, number: usize) -> Result<Atom, OutOfMemory>
     ensures { IfOk result (λ row. row ≡ new_row number) }
 {
     Ok(Atom::Named(row_name(alloc, number)?))
 }
 
-fn name_text(alloc: Global, name: &Name) -> Result<Txt, OutOfMemory>
+pub(crate) fn name_text(alloc: Global, name: &Name) -> Result<Txt, OutOfMemory>
     ensures { IfOk result (λ text. text ≡ name.now) }
 {
     let text = String::from_utf8_lossy(alloc, name.as_slice())?;
     Ok(Txt::from_string(text))
 }
 
-fn ip_text(alloc: Global, ip: Ipv4) -> Result<Txt, OutOfMemory>
+pub(crate) fn ip_text(alloc: Global, ip: Ipv4) -> Result<Txt, OutOfMemory>
     ensures { IfOk result (λ text. text ≡ ipv4_text ip) }
 {
     let _bits = ip.bits();
@@ -76,13 +79,13 @@ fn ip_text(alloc: Global, ip: Ipv4) -> Result<Txt, OutOfMemory>
     Ok(Txt::from_string(text))
 }
 
-fn one(alloc: Global, atom: Atom) -> Result<Datum, OutOfMemory>
+pub(crate) fn one(alloc: Global, atom: Atom) -> Result<Datum, OutOfMemory>
     ensures { IfOk result (λ datum. datum ≡ one atom) }
 {
     Ok(Datum::Set(AtomSet::one(alloc, atom)?))
 }
 
-fn word(alloc: Global, text: &str) -> Result<Datum, OutOfMemory>
+pub(crate) fn word(alloc: Global, text: &str) -> Result<Datum, OutOfMemory>
     ensures { IfOk result (λ datum. datum ≡ one (Text text.now)) }
 {
     one(alloc, Atom::Text(Txt::from_str(alloc, text)?))
@@ -101,7 +104,7 @@ fn columns_json(alloc: Global, values: &[(Column, Datum)]) -> Result<Value, OutO
 }
 
 /// The insertion of this number.
-fn insert_json(
+pub(crate) fn insert_json(
     alloc: Global,
     table: Table,
     number: usize,
@@ -140,7 +143,8 @@ fn locator_json(alloc: Global, number: usize, ip: Ipv4) -> Result<Value, OutOfMe
     insert_json(alloc, Table::PhysicalLocator, number, &values)
 }
 
-/// Adds the insertions of locators, and gives their rows. All operations before them are insertions.
+/// Adds the insertions of locators, and gives their rows. All operations before them are
+/// insertions.
 fn insert_locators(
     alloc: Global,
     addresses: &[Ipv4],
@@ -203,13 +207,14 @@ impl Intention {
     }
 }
 
-/// Adds the insertions of switches, and gives their rows. All operations before them are insertions.
+/// Adds the insertions of switches, and gives their rows. All operations before them are
+/// insertions.
 fn insert_switches(
     alloc: Global,
     intention: &Intention,
     switches: &[Name],
     operations: &mut Vec<Value>,
-) -> Result<SwitchRows, OutOfMemory>
+) -> Result<NamedRows, OutOfMemory>
     ensures rows { IfOk result (λ rows. maps.map_by bytes_cmp rows ≡ put_all maps.empty
         (numbered (λ n s. (s, n)) (length operations.old.items) switches.now)) }
     ensures added { OnOk result (map view operations.new.items ≡ map view operations.old.items
@@ -224,7 +229,7 @@ fn insert_switches(
     Ok(rows)
 }
 
-fn switch_row(alloc: Global, rows: &SwitchRows, name: &Name) -> Result<Atom, OutOfMemory>
+fn named_row(alloc: Global, rows: &NamedRows, name: &Name) -> Result<Atom, OutOfMemory>
     ensures { IfOk result (λ row. row ≡ row_in (maps.map_by bytes_cmp rows.now) name.now) }
 {
     let number = match rows.find(name) {
@@ -244,18 +249,14 @@ fn locator_row(alloc: Global, rows: &LocatorRows, ip: Ipv4) -> Result<Atom, OutO
     new_row(alloc, number)
 }
 
-/// The switch of each VLAN, as its row.
-fn vlan_bindings(
-    alloc: Global,
-    switches: &SwitchRows,
-    bindings: &[Bound],
-) -> Result<Datum, OutOfMemory>
+/// What each VLAN is bound to, as its row.
+fn bound_rows(alloc: Global, rows: &NamedRows, bindings: &[Bound]) -> Result<Datum, OutOfMemory>
     ensures { IfOk result (λ d. d
-        ≡ vlan_bindings (maps.map_by bytes_cmp switches.now) bindings.now) }
+        ≡ bound_rows (maps.map_by bytes_cmp rows.now) bindings.now) }
 {
     let mut pairs = List::new(alloc);
-    'bindings: for (vlan, switch) in bindings {
-        let row = switch_row(alloc, switches, switch)?;
+    'bindings: for (vlan, name) in bindings {
+        let row = named_row(alloc, rows, name)?;
         pairs.push((Atom::Integer(i64::from(vlan.number())), row))?;
     }
     Ok(Datum::Map(AtomMap::merged(alloc, pairs)?))
@@ -286,15 +287,22 @@ fn at_id(alloc: Global, id: RowId) -> Result<Value, OutOfMemory>
     Ok(Value::Array(conditions))
 }
 
-/// The update of a port.
-fn port_json(alloc: Global, switches: &SwitchRows, port: &Port) -> Result<Value, OutOfMemory>
+/// The update of a port, where switches and access lists have these rows.
+fn port_json(
+    alloc: Global,
+    switches: &NamedRows,
+    acls: &NamedRows,
+    port: &Port,
+) -> Result<Value, OutOfMemory>
     ensures { IfOk result (λ v. view v
-        ≡ port_json (maps.map_by bytes_cmp switches.now) port.now) }
+        ≡ port_json (maps.map_by bytes_cmp switches.now)
+        (maps.map_by bytes_cmp acls.now) port.now) }
 {
-    let bindings = vlan_bindings(alloc, switches, port.1.as_slice())?;
+    let bound = bound_rows(alloc, switches, port.1.as_slice())?;
+    let guarded = bound_rows(alloc, acls, port.2.as_slice())?;
     let values = [
-        (Column::PortAclBindings, Datum::Map(AtomMap::new(alloc))),
-        (Column::PortVlanBindings, bindings),
+        (Column::PortAclBindings, guarded),
+        (Column::PortVlanBindings, bound),
     ];
     let mut members = Map::new(alloc);
     put(&mut members, alloc, "where", at_id(alloc, port.0)?)?;
@@ -309,35 +317,39 @@ fn port_json(alloc: Global, switches: &SwitchRows, port: &Port) -> Result<Value,
     Ok(Value::Object(members))
 }
 
-/// Adds the update of a port, where it has bindings.
+/// Adds the update of a port, where it has bindings or is guarded.
 fn update_port(
     alloc: Global,
-    switches: &SwitchRows,
+    switches: &NamedRows,
+    acls: &NamedRows,
     port: &Port,
     operations: &mut Vec<Value>,
 ) -> Result<(), OutOfMemory>
     ensures { OnOk result (map view operations.new.items ≡ map view operations.old.items
-        ++ update_json (maps.map_by bytes_cmp switches.now) port.now) }
+        ++ update_json (maps.map_by bytes_cmp switches.now)
+        (maps.map_by bytes_cmp acls.now) port.now) }
 {
-    if port.1.is_empty() {
+    if port.1.is_empty() && port.2.is_empty() {
         return Ok(());
     }
-    operations.push(port_json(alloc, switches, port)?)?;
+    operations.push(port_json(alloc, switches, acls, port)?)?;
     Ok(())
 }
 
-/// Adds the updates of the ports that have bindings.
+/// Adds the updates of the ports that have bindings or are guarded.
 fn update_ports(
     alloc: Global,
-    switches: &SwitchRows,
+    switches: &NamedRows,
+    acls: &NamedRows,
     ports: &[Port],
     operations: &mut Vec<Value>,
 ) -> Result<(), OutOfMemory>
     ensures { OnOk result (map view operations.new.items ≡ map view operations.old.items
-        ++ ports_json (maps.map_by bytes_cmp switches.now) ports.now) }
+        ++ ports_json (maps.map_by bytes_cmp switches.now)
+        (maps.map_by bytes_cmp acls.now) ports.now) }
 {
     'ports: for port in ports {
-        update_port(alloc, switches, port, operations)?;
+        update_port(alloc, switches, acls, port, operations)?;
     }
     Ok(())
 }
@@ -371,7 +383,7 @@ fn set_json(
 /// The insertion of the row that sends what has no other place to the set of this number.
 fn remote_json(
     alloc: Global,
-    switches: &SwitchRows,
+    switches: &NamedRows,
     set: usize,
     switch: &Name,
 ) -> Result<Value, OutOfMemory>
@@ -381,7 +393,7 @@ fn remote_json(
 {
     let address = word(alloc, "unknown-dst")?;
     let locators = one(alloc, new_row(alloc, set)?)?;
-    let switch = one(alloc, switch_row(alloc, switches, switch)?)?;
+    let switch = one(alloc, named_row(alloc, switches, switch)?)?;
     let values = [
         (Column::McastRemoteMac, address),
         (Column::McastRemoteLocatorSet, locators),
@@ -390,12 +402,12 @@ fn remote_json(
     insert_json(alloc, Table::McastMacsRemote, set + 1, &values)
 }
 
-/// Adds the insertions of sets of locators, each before the row that sends there. Their numbers begin at `first`, and at least
-/// as many operations are before them.
+/// Adds the insertions of sets of locators, each before the row that sends there. Their numbers
+/// begin at `first`, and at least as many operations are before them.
 fn insert_floods(
     alloc: Global,
     locators: &LocatorRows,
-    switches: &SwitchRows,
+    switches: &NamedRows,
     first: usize,
     floods: &[Flood],
     operations: &mut Vec<Value>,
@@ -413,23 +425,26 @@ fn insert_floods(
     Ok(())
 }
 
-/// The operations that make these, and the locators of these addresses.
+/// The operations that make these ports, switches, access lists and floods, and the locators of
+/// these addresses.
 fn operations_for(
     alloc: Global,
     intention: &Intention,
     ports: &[Port],
     switches: &[Name],
+    acls: &[Name],
     floods: &[Flood],
     addresses: &[Ipv4],
 ) -> Result<Vec<Value>, OutOfMemory>
     ensures { IfOk result (λ operations. map view operations.items
-        ≡ operations_for intention.now ports.now switches.now floods.now addresses.now) }
+        ≡ operations_for intention.now ports.now switches.now acls.now floods.now addresses.now) }
 {
     let mut operations = Vec::new(alloc);
     let locator_rows = insert_locators(alloc, addresses, &mut operations)?;
     let switch_rows = insert_switches(alloc, intention, switches, &mut operations)?;
+    let acl_rows = insert_acls(alloc, intention, acls, &mut operations)?;
     let first = operations.len();
-    update_ports(alloc, &switch_rows, ports, &mut operations)?;
+    update_ports(alloc, &switch_rows, &acl_rows, ports, &mut operations)?;
     insert_floods(
         alloc,
         &locator_rows,
@@ -455,6 +470,7 @@ fn operations_of(
         ≡ operations_of intention.now peers.now gateway ports.now) }
 {
     let switches = switches_in(alloc, ports)?;
+    let acls = acls_in(alloc, ports)?;
     let floods = floods_at(alloc, hosts, peers, gateway, switches.as_slice())?;
     let addresses = addresses_in(alloc, floods.as_slice())?;
     operations_for(
@@ -462,6 +478,7 @@ fn operations_of(
         intention,
         ports,
         switches.as_slice(),
+        acls.as_slice(),
         floods.as_slice(),
         addresses.as_slice(),
     )
@@ -504,7 +521,8 @@ fn request_text(alloc: Global, operations: Vec<Value>) -> Result<Bytes, OutOfMem
     Ok(text)
 }
 
-/// What a gateway is asked to do, as the request of a transaction; none where nothing is wanted of it.
+/// What a gateway is asked to do, as the request of a transaction; none where nothing is wanted of
+/// it.
 pub(crate) fn request_for(
     alloc: Global,
     intention: &Intention,

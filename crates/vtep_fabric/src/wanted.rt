@@ -1,11 +1,11 @@
 //! What is wanted at a gateway.
 
-ghost use Rattle.std.specs.Prelude.{◌≡◌, ◌++◌, map, filter, IfOk, OnOk};
+ghost use Rattle.std.specs.Prelude.{◌≡◌, ◌++◌, map, IfOk, OnOk};
 ghost use Rattle.std.specs.List.{flat_map};
 ghost use Rattle.std.specs.Ordering.{nat_cmp};
 ghost use Rattle.vtep_base.specs.Maps as maps;
 ghost use Rattle.fabric_world.specs.Intentions.{bytes_cmp, binding_cmp};
-ghost use Rattle.fabric_world.specs.Installer.{with_each, ascending, is_at_port, bound, bound_at, ports_at, switches_in, host_cmp, hosts_at, hosts_of, is_host, others, flood, floods_at};
+ghost use Rattle.fabric_world.specs.Installer.{with_each, ascending, bound_at, ports_at, switches_in, acls_in, host_cmp, hosts_at, hosts_of, is_host, others, flood, floods_at};
 
 use crate::intention::Intention;
 use crate::peers::{Peer, Peers};
@@ -14,11 +14,12 @@ use std::collections::BTreeSet;
 use std::marker::Model;
 use vtep_base::{Binding, Ipv4, List, Name, Ordered, OutOfMemory, RowId, Vlan};
 
-/// A VLAN, and the switch that it is bound to.
+/// A VLAN, and the switch that it is bound to, or the access list that guards it.
 pub(crate) type Bound = (Vlan, Name);
 
-/// The row of a port, and what its VLANs are bound to.
-pub(crate) type Port = (RowId, List<Bound>);
+/// The row of a port, its VLANs that are bound with their switches, and those that are guarded with
+/// their access lists.
+pub(crate) type Port = (RowId, List<Bound>, List<Bound>);
 
 /// A switch with bindings at other gateways, and the addresses of these.
 pub(crate) type Flood = (Name, List<Ipv4>);
@@ -47,7 +48,8 @@ fn in_order<K: Ord + Drop>(alloc: Global, ordered: BTreeSet<K>) -> Result<List<K
     Ok(list)
 }
 
-/// What the VLANs of a port are bound to. It costs those and a look-up, whatever other bindings there are.
+/// What the VLANs of a port are bound to. It costs those and a look-up, whatever other bindings
+/// there are.
 fn bound_in(
     alloc: Global,
     bindings: &Ordered<Binding, Name>,
@@ -55,7 +57,7 @@ fn bound_in(
     port: Name,
 ) -> Result<List<Bound>, OutOfMemory>
     ensures { IfOk result (λ list. list
-        ≡ map bound (filter (is_at_port gateway port) (maps.map_by binding_cmp bindings.now).list)) }
+        ≡ bound_at (maps.map_by binding_cmp bindings.now) gateway port) }
 {
     let first = Binding {
         gateway,
@@ -74,9 +76,20 @@ fn bound_in(
 
 impl Intention {
     fn bound_at(&self, alloc: Global, gateway: Name, port: Name) -> Result<List<Bound>, OutOfMemory>
-        ensures { IfOk result (λ list. list ≡ bound_at self.now gateway port) }
+        ensures { IfOk result (λ list. list ≡ bound_at self.now.bindings gateway port) }
     {
         bound_in(alloc, &self.bindings, gateway, port)
+    }
+
+    fn guarded_at(
+        &self,
+        alloc: Global,
+        gateway: Name,
+        port: Name,
+    ) -> Result<List<Bound>, OutOfMemory>
+        ensures { IfOk result (λ list. list ≡ bound_at self.now.guards gateway port) }
+    {
+        bound_in(alloc, &self.guards, gateway, port)
     }
 }
 
@@ -91,17 +104,19 @@ pub(crate) fn ports_at(
 {
     let mut ports = List::new(alloc);
     'ports: for (port, id) in peer.ports() {
-        ports.push((*id, intention.bound_at(alloc, gateway, *port)?))?;
+        let bound = intention.bound_at(alloc, gateway, *port)?;
+        let guarded = intention.guarded_at(alloc, gateway, *port)?;
+        ports.push((*id, bound, guarded))?;
     }
     Ok(ports)
 }
 
-fn add_switches(switches: &mut BTreeSet<Name>, bound: &[Bound]) -> Result<(), OutOfMemory>
-    ensures { OnOk result (switches.new.keys
-        ≡ with_each bytes_cmp switches.old.keys (map (λ b. b.1) bound.now)) }
+fn add_names(names: &mut BTreeSet<Name>, bound: &[Bound]) -> Result<(), OutOfMemory>
+    ensures { OnOk result (names.new.keys
+        ≡ with_each bytes_cmp names.old.keys (map (λ b. b.1) bound.now)) }
 {
-    'bound: for (_, switch) in bound {
-        switches.insert(*switch)?;
+    'bound: for (_, name) in bound {
+        names.insert(*name)?;
     }
     Ok(())
 }
@@ -111,10 +126,21 @@ pub(crate) fn switches_in(alloc: Global, ports: &[Port]) -> Result<List<Name>, O
     ensures { IfOk result (λ switches. switches ≡ switches_in ports.now) }
 {
     let mut switches = BTreeSet::new(alloc);
-    'ports: for (_, bound) in ports {
-        add_switches(&mut switches, bound.as_slice())?;
+    'ports: for (_, bound, _) in ports {
+        add_names(&mut switches, bound.as_slice())?;
     }
     in_order(alloc, switches)
+}
+
+/// The access lists that guard the ports, by name.
+pub(crate) fn acls_in(alloc: Global, ports: &[Port]) -> Result<List<Name>, OutOfMemory>
+    ensures { IfOk result (λ acls. acls ≡ acls_in ports.now) }
+{
+    let mut acls = BTreeSet::new(alloc);
+    'ports: for (_, _, guarded) in ports {
+        add_names(&mut acls, guarded.as_slice())?;
+    }
+    in_order(alloc, acls)
 }
 
 fn add_hosts(

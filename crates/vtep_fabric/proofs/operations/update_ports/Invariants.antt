@@ -7,5 +7,5 @@ use Rattle.vtep_fabric.proofs.operations.update_ports.Given as goal
 
 abbrev pub invariant-ports : goal.invariant-ports
 invariant-ports l =
-    map view l.operations.items ++ ports_json (maps.map_by bytes_cmp l.switches) (drop l.port-index l.ports)
-    ≡ map view l.fn.operations.items ++ ports_json (maps.map_by bytes_cmp l.switches) l.ports
+    map view l.operations.items ++ ports_json (maps.map_by bytes_cmp l.switches) (maps.map_by bytes_cmp l.acls) (drop l.port-index l.ports)
+    ≡ map view l.fn.operations.items ++ ports_json (maps.map_by bytes_cmp l.switches) (maps.map_by bytes_cmp l.acls) l.ports

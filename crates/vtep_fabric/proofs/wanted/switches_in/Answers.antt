@@ -6,5 +6,5 @@ use Rattle.vtep_fabric.proofs.wanted.switches_in.Goals as goal
 
 pub ports-preserved : goal.ports-preserved
 ports-preserved c =
-    turn bytes_cmp (λ p. map (λ b. b.1) p.1) c.ports.switches.keys c.add_switches.new.switches.keys _ c.args.ports.now c.ports.bound-index c.ports-item.result
-    (omega arith) c.ports-item.is (c.in_ok-add_switches.ensures ∙ ap (λ bs. with_each bytes_cmp c.ports.switches.keys (map (λ b. b.1) bs)) c.as_slice.ensures) c.ports.invariant
+    turn bytes_cmp (λ p. map (λ b. b.1) p.1) c.ports.switches.keys c.add_names.new.names.keys _ c.args.ports.now c.ports.bound-index c.ports-item.result
+    (omega arith) c.ports-item.is (c.in_ok-add_names.ensures ∙ ap (λ bs. with_each bytes_cmp c.ports.switches.keys (map (λ b. b.1) bs)) c.as_slice.ensures) c.ports.invariant
