@@ -54,7 +54,7 @@ module _ (w : World) (g : Bytes) (gateway : Gateway) (only : w.gateways.list ≡
       (in_front (place g d, entries_of r acl) all_lists []
       (flat_in (listed g r) (place g d, entries_of r acl) d (bindings r) d_in (map_in (λ a. (place g d, entries_of r a)) acl (acl_rows d.lists) is)))
 
-  pub in_list : (b : Binding) (es : List Entry) → IsIn (b, es) (logical_of w).lists → (d : built.Binding) × IsIn d (bindings r) × ((acl : ℕ) × IsIn acl (acl_rows d.lists) × (b ≡ place g d) × (es ≡ entries_of r acl))
+  pub in_list : (b : Binding) (es : List Entry) → IsIn (b, es) (logical_of w).lists → (d : built.Binding) × IsIn d (bindings r) × (acl : ℕ) × IsIn acl (acl_rows d.lists) × (b ≡ place g d) × (es ≡ entries_of r acl)
   in_list b es is = elim (in_either (b, es) all_lists [] (subst (λ xs. IsIn (b, es) (flat_map lists xs)) only is)) [
     | inl h ↦
         let d = in_flat (listed g r) (b, es) (bindings r) h in

@@ -230,9 +230,9 @@ module _ (gateway : Gateway) (good : IsGood gateway.vtep.rows gateway.vtep.learn
       ∙ ap (λ ips. record { outcome = Done; ports = others; addresses = ips; vni = vni }) (no_addresses known)
 
   way_is : let_in ≡ true → way seen.vtep (origin.Port c.port c.vlan) inner ≡ goes
-  way_is open =
+  way_is lets =
       ap (λ fs. hop.hop (ways_of fs) (origin.Port c.port c.vlan) inner) (built_same seen.vtep.rows r taught.same later)
-      ∙ ap (from_port facts entering headers) (admission_is later ∙ ap admitted_if open)
+      ∙ ap (from_port facts entering headers) (admission_is later ∙ ap admitted_if lets)
       ∙ chosen itself refl
 
   -- the port is there
@@ -260,7 +260,7 @@ module _ (gateway : Gateway) (good : IsGood gateway.vtep.rows gateway.vtep.learn
       ∙ ap (entered gateway c.port c.vlan inner) (admission_is l)
 
   step_is : let_in ≡ true → moves.step gateway (event.Frame c.port bytes) ≡ stepped
-  step_is open = enters ∙ ap (λ b. entered gateway c.port c.vlan inner (admitted_if b)) open ∙ ap step_by (way_is open)
+  step_is lets = enters ∙ ap (λ b. entered gateway c.port c.vlan inner (admitted_if b)) lets ∙ ap step_by (way_is lets)
 
   -- one that is not let in
   abbrev kept_out : Step
@@ -339,8 +339,8 @@ module _ (gateway : Gateway) (good : IsGood gateway.vtep.rows gateway.vtep.learn
         ∙ (λ i. happens (messages g (taught.told i)) (as_written ports i))
 
     run_is : let_in ≡ true → run w line ≡ Ok (record { world = record w { gateways = after }; output = written })
-    run_is open =
-        ap (λ e. e >>= (λ h. ok (at_gateways w h))) (event_by stepped (step_is open))
+    run_is lets =
+        ap (λ e. e >>= (λ h. ok (at_gateways w h))) (event_by stepped (step_is lets))
         ∙ ap (λ h. ok (at_gateways w h)) happens_is
 
     -- one that is not let in
@@ -396,13 +396,13 @@ module _ (gateway : Gateway) (good : IsGood gateway.vtep.rows gateway.vtep.learn
     leaves : let_in ≡ true → itself ≡ false → (q : Port) → Binds r q.0 q.1 c.switch → not (same_port q entering) ≡ true → MayPass (logical_of w) Egress inner (at_port g q)
         → Owns (logical_of w) (switch_of r c.switch) (destination inner) (at_port g q) ⊎ ((d : Binding) → Owns (logical_of w) (switch_of r c.switch) (destination inner) d → ⊥)
         → Delivers (logical_of w) (place g c) bytes (at_port g q) (tagged q.1 inner)
-    leaves open away q m other out owned = (
+    leaves lets away q m other out owned = (
       switch_of r c.switch,
       inner,
       carries,
       record {
         enters = member_in w g gateway only c c_in;
-        let_in = passes_so r good.settled.rows good.settled.sound quiet w g gateway only refl inner Ingress c c_in open;
+        let_in = passes_so r good.settled.rows good.settled.sound quiet w g gateway only refl inner Ingress c c_in lets;
         to_another = to_another inner away;
         leaves = subst (λ (x : Bytes × Binding). IsIn x (logical_of w).bindings) (λ i. (switch_of r (sym m.switch_is i), at_port g (sym m.port_is i, sym m.vlan_is i))) (member_in w g gateway only m.of m.there);
         elsewhere = elsewhere q other;
@@ -413,7 +413,7 @@ module _ (gateway : Gateway) (good : IsGood gateway.vtep.rows gateway.vtep.learn
     )
 
     leaves_by : let_in ≡ true → itself ≡ false → (o : Option Learnt) → known ≡ o → (q : Port) → IsIn q (ports_to facts c.switch (Some entering) headers (option_map here o)) → Delivers (logical_of w) (place g c) bytes (at_port g q) (tagged q.1 inner)
-    leaves_by open away (Some e) is q there =
+    leaves_by lets away (Some e) is q there =
         let f = in_filter (λ p. not (same_port p entering)) q (let_out facts headers (its_binding e ∷ [])) there in
         let b = in_map (λ (b : Listed). b.0) q (filter goes_out (its_binding e ∷ [])) f.1 in
         let t = in_filter goes_out b.0 (its_binding e ∷ []) b.1 in
@@ -422,15 +422,15 @@ module _ (gateway : Gateway) (good : IsGood gateway.vtep.rows gateway.vtep.learn
         let its : b.0 ≡ its_binding e = elim t.1 [ inl same ↦ same | inr never ↦ absurd never ] in
         let same : q ≡ (e.port, e.vlan) = b.2 ∙ ap (λ (x : Listed). x.0) its in
         let m : Binds r e.port e.vlan c.switch = subst (Binds r e.port e.vlan) a.0 (binds e (found_entry c.switch dst l e u.1)) in
-        leaves open away q (subst (λ (p : Port). Binds r p.0 p.1 c.switch) (sym same) m) f.0
+        leaves lets away q (subst (λ (p : Port). Binds r p.0 p.1 c.switch) (sym same) m) f.0
         (subst (λ (p : Port). MayPass (logical_of w) Egress inner (at_port g p)) (sym same) (out_so (e.port, e.vlan) m (facts.lists (e.port, e.vlan)) (its_lists e m) (ap goes_out (sym its) ∙ t.0)))
         (inl (subst (λ (p : Port). Owns (logical_of w) (switch_of r c.switch) (destination inner) (at_port g p)) (sym same) (owns_known e is)))
-    leaves_by open away None is q there =
+    leaves_by lets away None is q there =
         let f = in_filter (λ p. not (same_port p entering)) q (let_out facts headers (facts.ports c.switch)) there in
         let b = in_map (λ (b : Listed). b.0) q (filter goes_out (facts.ports c.switch)) f.1 in
         let t = in_filter goes_out b.0 (facts.ports c.switch) b.1 in
         let m = told_port r later quiet c.switch b.0 (ordered_is b.0 (filter_map (port_by c.switch) (built.built r later)) t.1) in
-        leaves open away q (subst (λ (p : Port). Binds r p.0 p.1 c.switch) (sym b.2) m.0) f.0
+        leaves lets away q (subst (λ (p : Port). Binds r p.0 p.1 c.switch) (sym b.2) m.0) f.0
         (subst (λ (p : Port). MayPass (logical_of w) Egress inner (at_port g p)) (sym b.2) (out_so b.0.0 m.0 b.0.1 m.1 t.0))
         (inr (λ d o. let k = known_by d o in let clash : ◌≡◌ {A = Option Learnt} None (Some k.0) = sym is ∙ k.1 in cc))
 
@@ -486,10 +486,10 @@ module _ (gateway : Gateway) (good : IsGood gateway.vtep.rows gateway.vtep.learn
         subst (λ (y : Binding × Bytes). IsIn y outs) entry (map_in (as_out g inner) q ports all)
 
     by_test : let_in ≡ true → (b : Bool) → itself ≡ b → (x : Binding) (out : Bytes) → IsIn (x, out) (map (as_out g inner) (cond b [] others)) → Delivers (logical_of w) (place g c) bytes x out
-    by_test open true e x out is = absurd is
-    by_test open false e x out is =
+    by_test lets true e x out is = absurd is
+    by_test lets false e x out is =
         let q = in_map (as_out g inner) (x, out) others is in
-        subst (λ (y : Binding × Bytes). Delivers (logical_of w) (place g c) bytes y.0 y.1) (sym q.2) (leaves_by open e known refl q.0 q.1)
+        subst (λ (y : Binding × Bytes). Delivers (logical_of w) (place g c) bytes y.0 y.1) (sym q.2) (leaves_by lets e known refl q.0 q.1)
 
     -- ---- what is learnt
 
@@ -523,7 +523,7 @@ module _ (gateway : Gateway) (good : IsGood gateway.vtep.rows gateway.vtep.learn
         )
 
     delivered : let_in ≡ true → IsDelivered w (record w { gateways = after }) (place g c) bytes written
-    delivered open =
+    delivered lets =
         let order = outs_in_order g inner ports go_sorted in
         record {
           before = gateway;
@@ -536,8 +536,8 @@ module _ (gateway : Gateway) (good : IsGood gateway.vtep.rows gateway.vtep.learn
           written_so = refl;
           in_order = order;
           each_once = once_in_order outs order;
-          lets_in = lets_in false open;
-          exact = λ x out. (λ is. by_test open itself refl x out is, λ d. delivered_elsewhere x out d);
+          lets_in = lets_in false lets;
+          exact = λ x out. (λ is. by_test lets itself refl x out is, λ d. delivered_elsewhere x out d);
           stays = λ e. absurd (cc);
           learns = λ e. learns;
         }
@@ -580,7 +580,7 @@ module _ (gateway : Gateway) (good : IsGood gateway.vtep.rows gateway.vtep.learn
     delivers b is = subst (λ (x : Binding). IsRun w x bytes) (sym is) (by let_in refl)
       where
         by : (t : Bool) → let_in ≡ t → IsRun w (place g c) bytes
-        by true open = record { world = record w { gateways = after }; output = written; runs = run_is open; delivered = delivered open }
+        by true lets = record { world = record w { gateways = after }; output = written; runs = run_is lets; delivered = delivered lets }
         by false shut = record { world = record w { gateways = as_before }; output = output.Dropped g reason.Denied ∷ []; runs = denied_run shut; delivered = kept_away shut }
 
 -- ---- every state that lines lead to

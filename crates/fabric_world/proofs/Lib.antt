@@ -7,6 +7,7 @@ pub mod LineRanges
 pub mod Reached
 pub mod Switches
 pub mod Facts
+pub mod Weakly
 pub mod Passing
 pub mod Quiet
 pub mod SameRows
