@@ -1,4 +1,4 @@
-use Rattle.std.proofs.Common.{◌≡◌, ◌∷◌, ◌++◌, [], sym, ap, ◌∙◌, append-nil, arith}
+use Rattle.std.proofs.Common.{◌∷◌, ◌++◌, [], sym, ap, ◌∙◌, append-nil, arith}
 use Rattle.ovsdb_values.specs.Sets.{one}
 use Rattle.ovsdb_values.specs.declared.atoms.Atom.TheVariants.{Text}
 use Rattle.fabric_world.specs.Installer.{given, mac_atom}

@@ -1,4 +1,4 @@
-use Rattle.std.proofs.Common.{◌≡◌, ◌≤◌, map, length, insert, subst, ap, ◌∙◌, refl, arith}
+use Rattle.std.proofs.Common.{◌≡◌, ◌≤◌, map, length, insert, subst, refl, arith}
 use Rattle.fabric_world.specs.Intentions.{placed}
 use Rattle.vtep_fabric.proofs.AclOrder.{entry_placed}
 use Rattle.vtep_fabric.proofs.acls.in_sequence.Goals as goal
