@@ -36,11 +36,12 @@ fn remove_stale(
 }
 
 /// The Local tables follow a change of the rows, of a gateway with this tunnel address. Gives the
-/// learnt entries that go: those whose port and VLAN no longer name their switch, and those of whose
-/// address a remote row was inserted. It looks at the rows that differ, and walks the learnt list
-/// where a port differs.
+/// learnt entries that go: those whose port and VLAN no longer name their switch, and those of
+/// whose address a remote row was inserted. It looks at the rows that differ, and walks the learnt
+/// list where a port differs.
 ///
-/// `Spent` comes only where row numbers that it needs would pass the last one. Then the committed rows are as they were.
+/// `Spent` comes only where row numbers that it needs would pass the last one. Then the committed
+/// rows are as they were.
 pub fn follow(
     alloc: Global,
     database: &mut Database,

@@ -1,5 +1,5 @@
-//! Laws of the definitions: a commit keeps the Local tables those of what is learnt and of the switches that are bound, and learning,
-//! ageing and ports never break a rule.
+//! Laws of the definitions: a commit keeps the Local tables those of what is learnt and of the
+//! switches that are bound, and learning, ageing and ports never break a rule.
 
 ghost use Rattle.std.specs.Prelude.{◌≡◌, ◌<◌, ◌≤◌, ◌^◌, ℕ, List, [], ◌∷◌, ◌++◌, length, true, false, is_some, Some, Ok};
 ghost use Rattle.std.specs.List.{list_all};
@@ -39,8 +39,8 @@ pub fn ageing_commits()
         ≡ Ok (followed own r r (without_all gone l)) }
 {}
 
-/// A commit of an address that is learnt, where no row is changed, never breaks a rule while a row number is left. One row comes,
-/// with the own locator, which is there.
+/// A commit of an address that is learnt, where no row is changed, never breaks a rule while a row
+/// number is left. One row comes, with the own locator, which is there.
 pub fn learning_commits()
     ensures commits { (own : ℕ) (r : Rows) (l : List Learnt) (new : Learnt) → IsLearning own r l new
         → r.counter < last_number → length l < 2048 → commit own r r (l ++ new ∷ [])
@@ -52,7 +52,8 @@ pub fn learning_commits()
         → is_some (own_locator own r) ≡ true }
 {}
 
-/// What a commit brings about is what is said of it, and nothing else is, of a change of the rows and of any learnt addresses.
+/// What a commit brings about is what is said of it, and nothing else is, of a change of the rows
+/// and of any learnt addresses.
 pub fn followed_follows()
     ensures follows { (own : ℕ) (old r : Rows) (l learned : List Learnt) → IsChanged own old r l
         → list_all (λ e. is_individual e.mac) learned ≡ true → own < 2 ^ 32
@@ -66,8 +67,9 @@ pub fn followed_follows()
         × (left ≡ (followed own old r learned).learned) }
 {}
 
-/// The commit of a change keeps the Local tables those of what is learnt and of the bound switches, where its rows are sound: of a
-/// change that leaves locators and their sets as they were, and takes no port away that a row names.
+/// The commit of a change keeps the Local tables those of what is learnt and of the bound switches,
+/// where its rows are sound: of a change that leaves locators and their sets as they were, and
+/// takes no port away that a row names.
 pub fn commits_keep_local()
     ensures { (own : ℕ) (old r : Rows) (l : List Learnt) → IsChanged own old r l → own < 2 ^ 32
         → (followed own old r l).rows.counter ≤ last_number → Sound (followed own old r l).rows
@@ -101,8 +103,8 @@ pub fn ageing_keeps_local()
         → IsLocal own (followed own r r (without_all gone l)).rows (without_all gone l) }
 {}
 
-/// A commit of a change that binds no switch more, whose rows are sound but for the Local tables, never breaks a rule: so those of
-/// ports never do.
+/// A commit of a change that binds no switch more, whose rows are sound but for the Local tables,
+/// never breaks a rule: so those of ports never do.
 pub fn binding_no_more_commits()
     ensures { (own : ℕ) (old r : Rows) (l : List Learnt) → IsChanged own old r l
         → Sound (collected r) → ((s : ℕ) → is_bound r s ≡ true → is_bound old s ≡ true)

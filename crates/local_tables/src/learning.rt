@@ -20,7 +20,8 @@ use vtep_base::{Ipv4, Mac, OutOfMemory, RowId};
 use vtep_rows::{Database, RowsFault};
 use vtep_schema::Table;
 
-/// Inserts the row of an address that is learnt, of a gateway with this tunnel address, where no other row is changed.
+/// Inserts the row of an address that is learnt, of a gateway with this tunnel address, where no
+/// other row is changed.
 ///
 /// `Spent` comes only where no row number is left. Then the committed rows are as they were.
 pub fn add_address(

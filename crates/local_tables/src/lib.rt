@@ -1,5 +1,5 @@
-//! The Local tables of a gateway (vtep(5), Ucast_Macs_Local and Mcast_Macs_Local), which follow what it has learnt and the switches
-//! that are bound at its ports.
+//! The Local tables of a gateway (vtep(5), Ucast_Macs_Local and Mcast_Macs_Local), which follow
+//! what it has learnt and the switches that are bound at its ports.
 #![tactic(auto)]
 
 mod adding;

@@ -1,9 +1,8 @@
 -- What was done of a line, and was finished, is its answer.
-use Rattle.std.proofs.Common.{◌≡◌, Bool, false, [], ◌++◌, Result, Ok, Err, refl, sym, ap, subst, ◌∙◌}
+use Rattle.std.proofs.Common.{◌≡◌, false, [], ◌++◌, Result, Ok, Err, ap, subst, ◌∙◌}
 use Rattle.std.specs.Prelude.{⊤}
 use Rattle.vtep_base.specs.Reading.{Bytes}
 use Rattle.fabric_world.specs.declared.Line.{Line}
-use Rattle.fabric_world.specs.Outputs.{outputs_text}
 use Rattle.vtep_fabric.specs.Fabrics.{Held, Runs, Answers, Does, Finishes}
 use Rattle.vtep_fabric.specs.declared.FabricFault.{FabricFault}
 use Rattle.vtep_fabric.specs.declared.FabricFault.TheVariants.{OutOfMemory, Refused}

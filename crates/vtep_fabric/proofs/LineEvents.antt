@@ -1,5 +1,5 @@
 -- Lines that are events at gateways.
-use Rattle.std.proofs.Common.{◌≡◌, Bool, [], ◌∷◌, ◌++◌, Result, Ok, Err, refl, sym, ap, subst, ◌∙◌, append-nil}
+use Rattle.std.proofs.Common.{◌≡◌, Bool, [], Result, Ok, Err, refl, ap, ◌∙◌}
 use Rattle.std.specs.Prelude.{⊤, OnOk, IfErr}
 use Rattle.vtep_base.specs.Answers.{OrMemory}
 use Rattle.vtep_base.specs.Chains.{◌>>=◌}
@@ -7,11 +7,9 @@ use Rattle.vtep_base.specs.Reading.{Bytes}
 use Rattle.vtep_gateway.specs.declared.Event.{Event}
 use Rattle.fabric_world.specs.declared.Fault.{Fault}
 use Rattle.fabric_world.specs.declared.Line.{Line}
-use Rattle.fabric_world.specs.Intentions.{Intention}
-use Rattle.fabric_world.specs.Outputs.{outputs_text}
 use Rattle.fabric_world.specs.Happenings.{Gateways, Happening, event_at}
 use Rattle.fabric_world.specs.World.{World, Outcome, at_gateways, run}
-use Rattle.vtep_fabric.specs.Fabrics.{Held, refusal_of, Runs, Does, DoesHappen}
+use Rattle.vtep_fabric.specs.Fabrics.{refusal_of, Runs, Does, DoesHappen}
 use Rattle.vtep_fabric.specs.declared.FabricFault.{FabricFault}
 use Rattle.vtep_fabric.specs.declared.FabricFault.TheVariants.{OutOfMemory, Refused}
 

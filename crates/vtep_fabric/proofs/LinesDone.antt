@@ -1,5 +1,5 @@
 -- Lines that are no events at gateways.
-use Rattle.std.proofs.Common.{◌≡◌, Bool, true, false, [], ◌∷◌, ◌++◌, Result, Ok, Err, refl, sym, ap, subst, ◌∙◌, append-nil}
+use Rattle.std.proofs.Common.{◌≡◌, Bool, true, false, [], ◌∷◌, Result, Ok, Err, refl, sym, ap, ◌∙◌, append-nil}
 use Rattle.std.specs.Prelude.{⊤, nat_le, OnOk, OnErr, IfErr}
 use Rattle.std.specs.List.{list_any}
 use Rattle.vtep_base.specs.Answers.{OrMemory}

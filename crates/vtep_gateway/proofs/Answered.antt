@@ -1,5 +1,5 @@
 -- What a gateway does with a piece, and with a hangup.
-use Rattle.std.proofs.Common.{◌≡◌, ℕ, false, List, Option, Some, None, refl, ap, ◌∙◌}
+use Rattle.std.proofs.Common.{◌≡◌, ℕ, false, List, Option, Some, refl, ap, ◌∙◌}
 use Rattle.vtep_base.specs.Reading.{Bytes}
 use Rattle.vtep_base.specs.Maps as maps
 use Rattle.rpc_framing.specs.declared.Framing.{Framing}

@@ -1,10 +1,10 @@
 -- The frames without tag that frames and packets carry.
-use Rattle.std.proofs.Common.{◌≡◌, ◌≤◌, ◌+◌, ℕ, false, Bool, true, ◌&&◌, ◌==◌, List, ◌++◌, length, sym, ap, subst, ◌∙◌, arith}
+use Rattle.std.proofs.Common.{◌≡◌, ◌+◌, ℕ, false, ◌&&◌, ◌==◌, ◌++◌, length, sym, ap, subst, ◌∙◌, arith}
 use Rattle.std.specs.Prelude.{slice_index}
 use Rattle.std.proofs.lemmas.List.{length-append, get_or-append-add}
 use Rattle.vtep_base.specs.Reading.{Bytes}
 use Rattle.vtep_rows.proofs.Kept.{le_so}
-use Rattle.ether_frames.specs.Frames.{IsFrame, Carries, begins_tag}
+use Rattle.ether_frames.specs.Frames.{IsFrame, Carries}
 use Rattle.vxlan_frames.specs.Packets.{IsInner, IsPacket, tag_at}
 
 at_rest : (addresses rest : Bytes) (i : ℕ) → length addresses ≡ 12 → slice_index (addresses ++ rest) (12 + i) ≡ slice_index rest i

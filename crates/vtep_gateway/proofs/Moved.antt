@@ -14,7 +14,7 @@ use Rattle.mac_learning.specs.declared.Learnt.{Learnt}
 use Rattle.mac_learning.specs.Learning.{is_of, same_address, same_place, IsOnce, found, put, without, old_at, kept_at}
 use Rattle.mac_learning.proofs.KeptLemmas.{of_address}
 use Rattle.forward_program.specs.Built.{IsIn}
-use Rattle.forward_program.specs.Hosts.{host, port_of, learnt_port, learnt_place, with_places}
+use Rattle.forward_program.specs.Hosts.{host, port_of, learnt_place, with_places}
 use Rattle.forward_program.specs.Shown.{rows_shown, shown}
 use Rattle.forward_program.specs.Follows.{learnt_address, AreMoved}
 use Rattle.forward_program.proofs.Unique.{bytes_same}

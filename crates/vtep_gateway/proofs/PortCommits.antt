@@ -1,5 +1,5 @@
 -- The commit of a port that comes or goes.
-use Rattle.std.proofs.Common.{◌≡◌, ℕ, true, Option, Some, None, is_some, IfSome, IfErr, Result, Ok, Err, refl, sym, ap, subst, ◌∙◌, true≢false}
+use Rattle.std.proofs.Common.{◌≡◌, ℕ, true, Option, Some, None, is_some, IfSome, IfErr, Result, Ok, Err, refl, sym, subst, ◌∙◌, true≢false}
 use Rattle.std.specs.Prelude.{IsOk}
 use Rattle.vtep_base.specs.Reading.{Bytes}
 use Rattle.vtep_base.specs.Texts.{is_name}

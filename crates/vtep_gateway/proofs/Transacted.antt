@@ -21,8 +21,8 @@ use Rattle.local_tables.specs.Followed.{Committed, commit}
 use Rattle.local_tables.specs.Following.{without_all}
 use Rattle.local_tables.specs.Local.{IsChanged}
 use Rattle.vtep_gateway.specs.Vtep.{Vtep}
-use Rattle.vtep_gateway.specs.Commit.{Taken, committed, commit_of}
-use Rattle.vtep_gateway.specs.Methods.{Done, only, ended, transacted}
+use Rattle.vtep_gateway.specs.Commit.{committed, commit_of}
+use Rattle.vtep_gateway.specs.Methods.{only, ended, transacted}
 use Rattle.vtep_gateway.specs.Monitors.{told_all}
 use Rattle.vtep_gateway.specs.Good.{IsGood}
 use Rattle.vtep_gateway.proofs.Changing.{operations_change}

@@ -1,4 +1,4 @@
-use Rattle.std.proofs.Common.{◌≡◌, find, option_map}
+use Rattle.std.proofs.Common.{◌≡◌, find}
 use Rattle.fabric_world.specs.Happenings.{has_ip}
 use Rattle.vtep_fabric.proofs.roster.first_with_ip.Given as goal
 

@@ -1,5 +1,4 @@
 use Rattle.std.proofs.Common.{◌≡◌, Bool, [], sym, subst}
-use Rattle.std.proofs.lemmas.Result.{IfOk-weaker}
 use Rattle.vtep_base.specs.Reading.{Bytes}
 use Rattle.fabric_world.specs.declared.Intent.TheVariants as intent
 use Rattle.fabric_world.specs.declared.Line.TheVariants as lines

@@ -1,4 +1,4 @@
-use Rattle.std.proofs.Common.{[], refl, subst}
+use Rattle.std.proofs.Common.{refl, subst}
 use Rattle.std.specs.Prelude.{OnOk}
 use Rattle.vtep_gateway.specs.declared.Event.TheVariants as event
 use Rattle.fabric_world.specs.declared.Line.TheVariants as lines

@@ -1,4 +1,4 @@
-use Rattle.std.proofs.Common.{◌≡◌, false, [], refl, sym, ap, subst, ◌∙◌}
+use Rattle.std.proofs.Common.{◌≡◌, [], refl, sym, ap, subst, ◌∙◌}
 use Rattle.vtep_base.specs.Reading.{Bytes}
 use Rattle.vtep_gateway.specs.declared.Event.{Event}
 use Rattle.vtep_gateway.specs.declared.Event.TheVariants as event

@@ -1,6 +1,5 @@
-use Rattle.std.proofs.Common.{ap, subst, ◌∙◌}
+use Rattle.std.proofs.Common.{ap, ◌∙◌}
 use Rattle.vtep_base.specs.Maps as maps
-use Rattle.vtep_gateway.specs.Gateway.{Held}
 use Rattle.vtep_fabric.proofs.Rosters.{one-gateway}
 use Rattle.vtep_fabric.proofs.roster.Roster.add.Goals as goal
 

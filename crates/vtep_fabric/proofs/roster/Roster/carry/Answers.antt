@@ -1,8 +1,8 @@
-use Rattle.std.proofs.Common.{◌≡◌, Some, None, ◌++◌, [], find, option_map, refl, sym, ap, subst, ◌∙◌, append-nil}
+use Rattle.std.proofs.Common.{Some, None, ◌++◌, find, option_map, sym, ap, subst, ◌∙◌, append-nil}
 use Rattle.std.proofs.lemmas.Result.{IfOk-weaker}
 use Rattle.vtep_gateway.specs.declared.Event.TheVariants as event
-use Rattle.fabric_world.specs.Outputs.{Lost, output_text, outputs_text}
-use Rattle.fabric_world.specs.Happenings.{has_ip, destination, answer_outputs}
+use Rattle.fabric_world.specs.Outputs.{Lost, output_text}
+use Rattle.fabric_world.specs.Happenings.{has_ip, destination}
 use Rattle.vtep_fabric.specs.Fabrics.{Given, Took}
 use Rattle.vtep_fabric.proofs.Carried.{lost, comes, not_absent}
 use Rattle.vtep_fabric.proofs.roster.Roster.carry.Goals as goal

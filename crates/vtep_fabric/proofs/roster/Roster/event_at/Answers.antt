@@ -1,4 +1,4 @@
-use Rattle.std.proofs.Common.{◌≡◌, sym, ap, subst, ◌∙◌}
+use Rattle.std.proofs.Common.{sym, ap, subst, ◌∙◌}
 use Rattle.vtep_gateway.specs.Gateway.{Answer}
 use Rattle.fabric_world.specs.Happenings.{carried_each}
 use Rattle.vtep_fabric.specs.Fabrics.{Given, Happens}

@@ -1,4 +1,4 @@
-use Rattle.std.proofs.Common.{◌≡◌, Some, None, option_map, refl, sym, ap, subst, rules, ◌∙◌}
+use Rattle.std.proofs.Common.{Some, option_map, refl, sym, ap, subst, rules, ◌∙◌}
 use Rattle.std.specs.Prelude.{IsSome}
 use Rattle.std.specs.Option.{option_copied_mut}
 use Rattle.vtep_base.specs.Maps as maps

@@ -6,7 +6,7 @@ use Rattle.mac_learning.specs.declared.Learnt.{Learnt}
 use Rattle.forward_program.specs.Shown.{shown}
 use Rattle.vtep_gateway.specs.Ready.{fib_of}
 use Rattle.vtep_gateway.specs.Good.{IsGood}
-use Rattle.vtep_gateway.proofs.Settling.{name_short, opening_good}
+use Rattle.vtep_gateway.proofs.Settling.{opening_good}
 use Rattle.vtep_gateway.proofs.running.Running.new.Goals as goal
 
 pub returns-clause-ready : goal.returns-clause-ready

@@ -1,4 +1,4 @@
-use Rattle.std.proofs.Common.{rules, ◌≡◌, ℕ, ◌++◌, true, Option, Some, None, is_some, IfErr, IfSome, Ok, refl, sym, ap, subst, ◌∙◌}
+use Rattle.std.proofs.Common.{rules, ◌≡◌, ◌++◌, None, IfErr, sym, ap, subst, ◌∙◌}
 use Rattle.vtep_rows.specs.Rows.{Rows}
 use Rattle.vtep_rows.specs.Changes.{changes}
 use Rattle.vtep_rows.specs.Database.{Versions}
@@ -8,7 +8,7 @@ use Rattle.local_tables.specs.Following.{without_all}
 use Rattle.vtep_gateway.specs.declared.ports.PortFault.TheVariants as port
 use Rattle.vtep_gateway.specs.Vtep.{Vtep}
 use Rattle.vtep_gateway.specs.Monitors.{told_all}
-use Rattle.vtep_gateway.specs.Commit.{Taken, changed}
+use Rattle.vtep_gateway.specs.Commit.{changed}
 use Rattle.vtep_gateway.specs.Ports.{port_refusal, with_port}
 use Rattle.vtep_gateway.specs.Good.{IsGood}
 use Rattle.vtep_gateway.specs.Ready.{fib_of}

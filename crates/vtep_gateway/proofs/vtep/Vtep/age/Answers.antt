@@ -1,5 +1,4 @@
-use Rattle.std.proofs.Common.{rules, ◌≡◌, ℕ, List, ◌++◌, refl, sym, ap, subst, ◌∙◌}
-use Rattle.vtep_rows.specs.declared.differences.RowChange.{RowChange}
+use Rattle.std.proofs.Common.{◌≡◌, ℕ, ◌++◌, sym, ap, subst, ◌∙◌}
 use Rattle.vtep_rows.specs.Changes.{changes}
 use Rattle.mac_learning.specs.Learning.{Learning, old_at, kept_at}
 use Rattle.forward_program.specs.Readings.{own_ip}

@@ -1,4 +1,4 @@
-use Rattle.std.proofs.Common.{rules, ◌≡◌, ℕ, true, ◌++◌, map, Some, None, Ok, sym, ap, subst, ◌∙◌, append-nil}
+use Rattle.std.proofs.Common.{rules, ◌≡◌, true, ◌++◌, map, Some, None, Ok, sym, ap, subst, ◌∙◌, append-nil}
 use Rattle.std.specs.Prelude.{is_err}
 use Rattle.serde_json.specs.View.{view}
 use Rattle.serde_json.specs.Written.{has_float}
