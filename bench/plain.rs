@@ -7,7 +7,48 @@ struct Plain {
     gateways: BTreeMap<String, Gateway>,
     switches: BTreeMap<String, u32>,
     bindings: BTreeMap<(String, String, u16), String>,
+    acls: BTreeMap<String, Vec<Entry>>,
+    guards: BTreeMap<(String, String, u16), String>,
 }
+
+/// An entry of an access list: what is given has to be so.
+#[derive(Clone, Default)]
+struct Entry {
+    sequence: u32,
+    egress: bool,
+    deny: bool,
+    source_mac: Option<[u8; 6]>,
+    dest_mac: Option<[u8; 6]>,
+    ethertype: Option<u16>,
+    source_ip: Option<u32>,
+    source_mask: Option<u32>,
+    dest_ip: Option<u32>,
+    dest_mask: Option<u32>,
+    protocol: Option<u8>,
+    icmp_type: Option<u8>,
+    icmp_code: Option<u8>,
+    source_port_min: Option<u16>,
+    source_port_max: Option<u16>,
+    dest_port_min: Option<u16>,
+    dest_port_max: Option<u16>,
+    tcp_flags: Option<u16>,
+    tcp_flags_mask: Option<u16>,
+}
+
+/// What entries look at: source, destination and type, and where they are there the addresses and the protocol of IPv4, ports, flags
+/// of TCP, and type and code of ICMP.
+struct Headers {
+    source: [u8; 6],
+    destination: [u8; 6],
+    ethertype: u16,
+    ip: Option<(u32, u32, u8)>,
+    ports: Option<(u16, u16)>,
+    flags: Option<u16>,
+    icmp: Option<(u8, u8)>,
+}
+
+/// Access lists by port and VLAN.
+type Lists = HashMap<(String, u16), Vec<Vec<Entry>>>;
 
 struct Gateway {
     name: String,
@@ -16,6 +57,7 @@ struct Gateway {
     sessions: BTreeMap<u32, Vec<u8>>,
     database: Database,
     forwarding: Option<Forwarding>,
+    lists: Lists,
 }
 
 /// Where frames go by the rows of a gateway; switches are numbers of rows.
@@ -149,6 +191,95 @@ fn frame_of(bytes: &[u8]) -> Result<(u16, Vec<u8>), (&'static str, usize)> {
     }
     let vlan = u16::from_be_bytes([bytes[14], bytes[15]]) & 0xfff;
     Ok((vlan, [&bytes[..12], &bytes[16..]].concat()))
+}
+
+fn headers(b: &[u8]) -> Headers {
+    let short = |at: usize| u16::from_be_bytes([b[at], b[at + 1]]);
+    let long = |at: usize| u32::from_be_bytes([b[at], b[at + 1], b[at + 2], b[at + 3]]);
+    let (destination, source) = (b[..6].try_into().unwrap(), b[6..12].try_into().unwrap());
+    let mut read = Headers { source, destination, ethertype: short(12), ip: None, ports: None, flags: None, icmp: None };
+    if read.ethertype != 0x0800 || b.len() < 34 || b[14] >> 4 != 4 {
+        return read;
+    }
+    let length = usize::from(b[14] & 15) * 4;
+    if length < 20 || b.len() < 14 + length {
+        return read;
+    }
+    let protocol = b[23];
+    read.ip = Some((long(26), long(30), protocol));
+    let (at, rest) = (14 + length, b.len() - 14 - length);
+    if short(20) & 0x1fff != 0 {
+        return read;
+    }
+    if (protocol == 6 || protocol == 17) && rest >= 4 {
+        read.ports = Some((short(at), short(at + 2)));
+    }
+    if protocol == 6 && rest >= 14 {
+        read.flags = Some(short(at + 12) & 0x1ff);
+    }
+    if protocol == 1 && rest >= 2 {
+        read.icmp = Some((b[at], b[at + 1]));
+    }
+    read
+}
+
+/// A value is not given, or is there and passes.
+fn holds<T, V: Copy>(given: Option<T>, there: Option<V>, test: impl Fn(T, V) -> bool) -> bool {
+    given.map_or(true, |wanted| there.is_some_and(|value| test(wanted, value)))
+}
+
+impl Entry {
+    fn set(&mut self, field: &str, word: &str) -> Option<()> {
+        let mac = |word: &str| -> Option<[u8; 6]> {
+            let bytes: Vec<u8> = word.split(':').map(|part| u8::from_str_radix(part, 16).ok()).collect::<Option<_>>()?;
+            bytes.try_into().ok()
+        };
+        match field {
+            "source_mac" => self.source_mac = Some(mac(word)?),
+            "dest_mac" => self.dest_mac = Some(mac(word)?),
+            "ethertype" => self.ethertype = Some(u16::from_str_radix(word.strip_prefix("0x")?, 16).ok()?),
+            "source_ip" => self.source_ip = Some(ipv4(word.as_bytes())?),
+            "source_mask" => self.source_mask = Some(ipv4(word.as_bytes())?),
+            "dest_ip" => self.dest_ip = Some(ipv4(word.as_bytes())?),
+            "dest_mask" => self.dest_mask = Some(ipv4(word.as_bytes())?),
+            "protocol" => self.protocol = Some(word.parse().ok()?),
+            "icmp_type" => self.icmp_type = Some(word.parse().ok()?),
+            "icmp_code" => self.icmp_code = Some(word.parse().ok()?),
+            "source_port_min" => self.source_port_min = Some(word.parse().ok()?),
+            "source_port_max" => self.source_port_max = Some(word.parse().ok()?),
+            "dest_port_min" => self.dest_port_min = Some(word.parse().ok()?),
+            "dest_port_max" => self.dest_port_max = Some(word.parse().ok()?),
+            "tcp_flags" => self.tcp_flags = Some(word.parse().ok()?),
+            "tcp_flags_mask" => self.tcp_flags_mask = Some(word.parse().ok()?),
+            _ => return None,
+        }
+        Some(())
+    }
+
+    fn matches(&self, egress: bool, h: &Headers) -> bool {
+        let (source_mask, dest_mask) = (self.source_mask.unwrap_or(u32::MAX), self.dest_mask.unwrap_or(u32::MAX));
+        let flags_mask = self.tcp_flags_mask.unwrap_or(511);
+        self.egress == egress
+            && holds(self.source_mac, Some(h.source), |a, b| a == b)
+            && holds(self.dest_mac, Some(h.destination), |a, b| a == b)
+            && holds(self.ethertype, Some(h.ethertype), |a, b| a == b)
+            && holds(self.source_ip, h.ip, |a, b| a & source_mask == b.0 & source_mask)
+            && holds(self.dest_ip, h.ip, |a, b| a & dest_mask == b.1 & dest_mask)
+            && holds(self.protocol, h.ip, |a, b| a == b.2)
+            && holds(self.source_port_min, h.ports, |a, b| a <= b.0)
+            && holds(self.source_port_max, h.ports, |a, b| a >= b.0)
+            && holds(self.dest_port_min, h.ports, |a, b| a <= b.1)
+            && holds(self.dest_port_max, h.ports, |a, b| a >= b.1)
+            && holds(self.tcp_flags, h.flags, |a, b| a & flags_mask == b & flags_mask)
+            && holds(self.icmp_type, h.icmp, |a, b| a == b.0)
+            && holds(self.icmp_code, h.icmp, |a, b| a == b.1)
+    }
+}
+
+/// In each list the first entry that matches says whether a frame passes; where none does, it passes.
+fn permits(lists: Option<&Vec<Vec<Entry>>>, egress: bool, h: &Headers) -> bool {
+    let permits_one = |list: &Vec<Entry>| list.iter().find(|entry| entry.matches(egress, h)).map_or(true, |entry| !entry.deny);
+    lists.map_or(true, |lists| lists.iter().all(permits_one))
 }
 
 fn tagged(vlan: u16, inner: &[u8]) -> Vec<u8> {
@@ -593,11 +724,17 @@ impl Forwarding {
     }
 
     /// Where a frame of a port goes: to ports of the gateway, and in packets to addresses.
-    fn flood(&self, name: &str, port: &str, vlan: u16, inner: &[u8], out: &mut Vec<u8>) -> (u32, Vec<u32>) {
+    fn flood(&self, name: &str, lists: &Lists, port: &str, vlan: u16, inner: &[u8], out: &mut Vec<u8>) -> (u32, Vec<u32>) {
         let Some((_, _, switch)) = self.bindings.iter().find(|(p, v, _)| p == port && *v == vlan) else {
             out.extend_from_slice(format!("drop {name} unbound\n").as_bytes());
             return (0, Vec::new());
         };
+        let read = headers(inner);
+        let guards = if lists.is_empty() { None } else { lists.get(&(port.to_string(), vlan)) };
+        if !permits(guards, false, &read) {
+            out.extend_from_slice(format!("drop {name} acl\n").as_bytes());
+            return (0, Vec::new());
+        }
         if inner[..6] == inner[6..12] {
             return (0, Vec::new());
         }
@@ -608,13 +745,14 @@ impl Forwarding {
                 return (key.copied().unwrap_or(0), key.map_or_else(Vec::new, |_| vec![*ip]));
             }
         }
-        self.leave(name, *switch, Some((port, vlan)), inner, out);
+        self.leave(name, lists, *switch, Some((port, vlan)), inner, &read, out);
         (key.copied().unwrap_or(0), key.and_then(|_| self.floods.get(switch)).cloned().unwrap_or_default())
     }
 
-    fn leave(&self, name: &str, switch: u64, entered: Option<(&str, u16)>, inner: &[u8], out: &mut Vec<u8>) {
+    fn leave(&self, name: &str, lists: &Lists, switch: u64, entered: Option<(&str, u16)>, inner: &[u8], read: &Headers, out: &mut Vec<u8>) {
         for (p, v, s) in &self.bindings {
-            if *s == switch && entered != Some((p.as_str(), *v)) {
+            let guards = if lists.is_empty() { None } else { lists.get(&(p.clone(), *v)) };
+            if *s == switch && entered != Some((p.as_str(), *v)) && permits(guards, true, read) {
                 out.extend_from_slice(b"out ");
                 out.extend_from_slice(name.as_bytes());
                 out.push(b' ');
@@ -647,7 +785,7 @@ impl Forwarding {
 impl Gateway {
     fn new(name: String, ip: u32) -> Gateway {
         let database = Database { counter: 2, rows: BTreeMap::new(), named: HashMap::new(), keys: HashSet::new() };
-        Gateway { name, ip, ports: BTreeMap::new(), sessions: BTreeMap::new(), database, forwarding: None }
+        Gateway { name, ip, ports: BTreeMap::new(), sessions: BTreeMap::new(), database, forwarding: None, lists: HashMap::new() }
     }
 
     fn answer(&mut self, message: &[u8]) -> Option<Json> {
@@ -688,22 +826,22 @@ impl Gateway {
         self.ports.insert(port, self.database.counter);
     }
 
-    /// Name, address, and what frames go by.
-    fn parts(&mut self) -> (&str, u32, &Forwarding) {
-        let Gateway { name, ip, database, forwarding, .. } = self;
-        (name, *ip, forwarding.get_or_insert_with(|| Forwarding::of(database).unwrap()))
+    /// Name, address, what frames go by, and the access lists.
+    fn parts(&mut self) -> (&str, u32, &Forwarding, &Lists) {
+        let Gateway { name, ip, database, forwarding, lists, .. } = self;
+        (name, *ip, forwarding.get_or_insert_with(|| Forwarding::of(database).unwrap()), lists)
     }
 
     /// A packet from the underlay is read, and its frame leaves at the ports of its network's switch.
     fn underlay(&mut self, packet: &[u8], out: &mut Vec<u8>) {
-        let (name, ip, forwarding) = self.parts();
+        let (name, ip, forwarding, lists) = self.parts();
         let drop = match packet_of(packet) {
             Err((kind, at)) => format!("packet {kind} {at}"),
             Ok(_) if destination(packet) != ip => "address".to_string(),
             Ok((vni, inner)) => match forwarding.networks.get(&vni) {
                 None => "vni".to_string(),
                 Some(_) if inner[..6] == inner[6..12] => return,
-                Some(switch) => return forwarding.leave(name, *switch, None, inner, out),
+                Some(switch) => return forwarding.leave(name, lists, *switch, None, inner, &headers(inner), out),
             },
         };
         out.extend_from_slice(format!("drop {name} {drop}\n").as_bytes());
@@ -725,7 +863,7 @@ fn collected(word: &str, items: Vec<Json>) -> Json {
 
 impl Plain {
     fn new() -> Plain {
-        Plain { gateways: BTreeMap::new(), switches: BTreeMap::new(), bindings: BTreeMap::new() }
+        Plain { gateways: BTreeMap::new(), switches: BTreeMap::new(), bindings: BTreeMap::new(), acls: BTreeMap::new(), guards: BTreeMap::new() }
     }
 
     fn at(&mut self, word: (usize, &[u8])) -> Result<&mut Gateway, Refusal> {
@@ -747,7 +885,7 @@ impl Plain {
         if !gateway.ports.contains_key(&port) {
             return refuse(w[2].0, "unknown");
         }
-        let (name, ip, forwarding) = gateway.parts();
+        let (name, ip, forwarding, lists) = gateway.parts();
         let (vlan, inner) = match frame_of(&bytes) {
             Ok(read) => read,
             Err((kind, at)) => {
@@ -755,7 +893,7 @@ impl Plain {
                 return Ok(());
             }
         };
-        let (vni, ips) = forwarding.flood(name, &port, vlan, &inner, out);
+        let (vni, ips) = forwarding.flood(name, lists, &port, vlan, &inner, out);
         let packets: Vec<Vec<u8>> = ips.iter().map(|to| packet(ip, *to, vni, &inner)).collect();
         for packet in packets {
             let to = destination(&packet);
@@ -830,6 +968,15 @@ impl Plain {
         for (gateway, request) in self.gateways.values_mut().zip(requests) {
             gateway.take(0, &request, out);
             gateway.parts();
+            gateway.lists.clear();
+        }
+        // The lists of a port stand at VLAN 0 for all its VLANs, and the others for their own.
+        for ((g, port, vlan), acl) in &self.guards {
+            let Some(gateway) = self.gateways.get_mut(g).filter(|gateway| gateway.ports.contains_key(port)) else { continue };
+            let bound: Vec<u16> = self.bindings.keys().filter(|(h, p, v)| h == g && p == port && (*vlan == 0 || v == vlan)).map(|key| key.2).collect();
+            for vlan in bound {
+                gateway.lists.entry((port.clone(), vlan)).or_default().push(self.acls[acl].clone());
+            }
         }
         out.extend_from_slice(b"settled\n");
     }
@@ -851,10 +998,24 @@ impl Plain {
                 let vlan = value(w[4], |t| number(t, 4095))? as u16;
                 self.bindings.insert((value(w[2], name)?, value(w[3], name)?, vlan), value(w[1], name)?);
             }
+            b"acl" => {
+                let words: Vec<&str> = w.iter().filter_map(|word| std::str::from_utf8(word.1).ok()).collect();
+                let mut entry = Entry { sequence: value(w[2], |t| number(t, u32::MAX))?, egress: words[3] == "out", deny: words[4] == "deny", ..Entry::default() };
+                for (given, word) in words[5..].iter().zip(&w[5..]) {
+                    given.split_once('=').and_then(|(field, text)| entry.set(field, text)).map_or_else(|| refuse(word.0, "value"), Ok)?;
+                }
+                let entries = self.acls.entry(words[1].to_string()).or_default();
+                let place = entries.partition_point(|other| other.sequence <= entry.sequence);
+                entries.insert(place, entry);
+            }
+            b"guard" => {
+                let vlan = value(w[3], |t| number(t, 4095))? as u16;
+                self.guards.insert((value(w[1], name)?, value(w[2], name)?, vlan), value(w[4], name)?);
+            }
             b"settle" => self.settle(out),
             b"frame" => self.frame(w, out)?,
             b"show" => {
-                let (name, ip, forwarding) = self.at(w[1])?.parts();
+                let (name, ip, forwarding, _) = self.at(w[1])?.parts();
                 forwarding.show(name, ip, out);
             }
             b"rpc" => self.rpc(w, out)?,

@@ -87,11 +87,7 @@ fn to_cancel(
 
 impl Vtep {
     /// Opens a monitor of a session. Gives the rows that are there, or the word of refusal.
-    pub(crate) fn monitor(
-        &mut self,
-        session: u32,
-        params: &Value,
-    ) -> Result<Called, OutOfMemory>
+    pub(crate) fn monitor(&mut self, session: u32, params: &Value) -> Result<Called, OutOfMemory>
         requires plain { has_float (view params.now) ≡ false }
         ensures left { IfOk result (λ _. self.new
             ≡ (monitor_in self.old session (view params.now)).vtep) }

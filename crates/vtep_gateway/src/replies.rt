@@ -60,12 +60,7 @@ pub(crate) fn sent(alloc: Global, session: u32, message: &Message) -> Result<Out
 }
 
 /// The reply to a session's request.
-fn reply(
-    alloc: Global,
-    session: u32,
-    outcome: Called,
-    id: Value,
-) -> Result<Outgoing, OutOfMemory>
+fn reply(alloc: Global, session: u32, outcome: Called, id: Value) -> Result<Outgoing, OutOfMemory>
     requires plain { IfOk outcome (λ v. has_float (view v) ≡ false) }
     requires plain_id { has_float (view id) ≡ false }
     ensures { IfOk result (λ o. o ≡ outgoing session (response (seen outcome) (view id))) }
